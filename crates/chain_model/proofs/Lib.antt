@@ -1,0 +1,5 @@
+pub mod OutcomeLemmas
+pub mod ChoiceLemmas
+pub mod BranchLemmas
+pub mod StepLemmas
+pub mod SettlingLemmas
