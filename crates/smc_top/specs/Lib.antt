@@ -1,0 +1,4 @@
+pub mod Codes
+pub mod Job
+pub mod Report
+pub mod Outside
