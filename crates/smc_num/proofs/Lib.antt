@@ -1,0 +1,10 @@
+pub mod GcdLemmas
+pub mod LowestLemmas
+pub mod SignedLemmas
+pub mod SumLemmas
+pub mod ProductLemmas
+pub mod PowerLemmas
+pub mod OrderLemmas
+pub mod CommonLemmas
+pub mod SpellingLemmas
+pub mod DigitsLemmas
