@@ -1,0 +1,11 @@
+pub mod PowerLemmas
+pub mod FactorLemmas
+pub mod SideLemmas
+pub mod ComparisonLemmas
+pub mod DecisionLemmas
+pub mod TermsLemmas
+pub mod SettingsLemmas
+pub mod FaultLemmas
+pub mod ClassLemmas
+pub mod ProbabilityLemmas
+pub mod LawLemmas
