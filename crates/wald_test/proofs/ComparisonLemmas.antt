@@ -1,7 +1,5 @@
 -- Two numbers whose powers lie between powers of two: what their sums tell of their order.
-use Rattle.std.proofs.Common.{◌≡◌, ◌≢◌, ℕ, zero, suc, ◌+◌, ◌*◌, ◌^◌, ◌<◌, ◌≤◌, ◌==◌, Bool, true, false, cond, not, ◌&&◌, ◌||◌, nat_lt, nat_le, refl, sym, ap, ◌∙◌, subst, arith, lit<, Option, Some, None, nat_cmp, Ordering, Less, Equal, Greater}
-use Rattle.std.specs.Ordering.{MatchOrdering}
-use Rattle.std.specs.Cmp.{ranks}
+use Rattle.std.proofs.Common.{◌≡◌, ℕ, zero, suc, ◌^◌, ◌<◌, ◌≤◌, ◌==◌, Bool, true, false, cond, not, ◌&&◌, nat_lt, nat_le, refl, sym, ap, ◌∙◌, subst, arith, lit<, Option, Some, None, nat_cmp, Ordering, Less, Equal, Greater}
 use Rattle.std.proofs.lemmas.Bool.{and_parts, ltb-true, eqb-true}
 use Rattle.std.proofs.Math.Bool.{and-false}
 use Rattle.std.proofs.lemmas.Bool.Decides.{nat_tests}

@@ -1,13 +1,12 @@
 -- The class by sums is the class by the sides' numbers, and a close class is near a boundary.
-use Rattle.std.proofs.Common.{◌≡◌, ℕ, zero, suc, ◌+◌, ◌-◌, ◌*◌, ◌^◌, ◌<◌, ◌≤◌, ◌==◌, ◌⊎◌, inl, inr, Bool, true, false, cond, not, ◌&&◌, ◌||◌, nat_lt, nat_le, refl, sym, ap, ap₂, ◌∙◌, subst, arith, Option, Some, None, nat_cmp, Ordering, Less, Equal, Greater}
+use Rattle.std.proofs.Common.{◌≡◌, ℕ, zero, suc, ◌+◌, ◌-◌, ◌*◌, ◌^◌, ◌<◌, ◌≤◌, ◌==◌, ◌⊎◌, inl, inr, Bool, true, false, cond, ◌||◌, nat_lt, nat_le, refl, sym, ap, ap₂, ◌∙◌, subst, arith, Some, None, nat_cmp, Ordering, Less, Equal, Greater}
 use Rattle.std.specs.Ordering.{MatchOrdering}
 use Rattle.std.specs.Cmp.{ranks}
-use Rattle.std.proofs.Math.Nat.{pow-zero, pow-suc, zero-mul, mul-zero, mul-pos, mul-le-mul_left, one-le-pow}
+use Rattle.std.proofs.Math.Nat.{pow-zero, pow-suc, zero-mul, mul-zero, mul-pos, one-le-pow}
 use Rattle.std.proofs.lemmas.Bool.{and_parts, ltb-true, leb-true, eqb-true}
 use Rattle.std.proofs.lemmas.Bool.Decides.{nat_tests}
 use Rattle.sampling_plan.specs.declared.class.Class.{Class}
 use Rattle.sampling_plan.specs.declared.class.Class.TheVariants.{Accept, Reject, Close, Go}
-use Rattle.wald_test.specs.declared.sums.Sums.{Sums}
 use Rattle.wald_test.specs.SequentialTest.{SequentialTest, IsTest}
 use Rattle.wald_test.specs.Side.{Side, number_of, accept_left, accept_right, reject_left, reject_right}
 use Rattle.wald_test.specs.Sums.{low_end, high_end, lower_sum, upper_sum}

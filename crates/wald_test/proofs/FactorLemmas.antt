@@ -1,7 +1,6 @@
 -- The ends of a factor's bracket.
 use Rattle.std.proofs.Common.{◌≡◌, ℕ, zero, suc, ◌<◌, refl, sym, ap, ◌∙◌, arith}
 use Rattle.log_bracket.specs.Bracket.{bracket_of}
-use Rattle.wald_test.specs.declared.factor.Factor.{Factor}
 use Rattle.wald_test.specs.Sums.{low_end, high_end}
 use Rattle.wald_test.specs.Kept.{factor_of}
 

@@ -1,5 +1,5 @@
 -- The faults of settings: what is known where there is none, and when each comes.
-use Rattle.std.proofs.Common.{◌≡◌, ℕ, Bool, true, false, cond, ◌||◌, ◌↔◌, refl, sym, ap, subst, Option, Some, None, Result, Ok, Err}
+use Rattle.std.proofs.Common.{◌≡◌, Bool, true, false, cond, ◌||◌, ◌↔◌, refl, sym, ap, subst, Option, Some, None, Result, Ok, Err}
 use Rattle.std.proofs.lemmas.Bool.{or_parts}
 use Rattle.smc_num.specs.Fraction.{Fraction}
 use Rattle.sampling_plan.specs.declared.fault.PlanFault.{PlanFault}

@@ -1,8 +1,8 @@
 -- The two boundaries lie apart.
-use Rattle.std.proofs.Common.{◌≡◌, ℕ, zero, suc, ◌+◌, ◌-◌, ◌*◌, ◌^◌, ◌<◌, ◌≤◌, refl, sym, ap, ◌∙◌, arith}
-use Rattle.std.proofs.Math.Nat.{mul-le-mul_left, mul-le-mul_right, mul-lt-mul_of_pos_right, lt_of_mul-lt-mul_left, pos_of_ne-zero}
+use Rattle.std.proofs.Common.{ℕ, zero, suc, ◌+◌, ◌-◌, ◌*◌, ◌^◌, ◌<◌, ◌≤◌, arith}
+use Rattle.std.proofs.Math.Nat.{mul-lt-mul_of_pos_right, lt_of_mul-lt-mul_left}
 use Rattle.wald_test.specs.SequentialTest.{SequentialTest}
-use Rattle.wald_test.specs.Side.{number_of, accept_left, accept_right, reject_left, reject_right, CrossesAccept, CrossesReject, HasSide}
+use Rattle.wald_test.specs.Side.{number_of, CrossesAccept, CrossesReject, HasSide}
 
 -- a likelihood with the greater factor, at most another with the lesser, is the lesser one unless it is 0
 lesser : (x y more less : ℕ) → less < more → x * more ≤ y * less → 0 < x → x < y

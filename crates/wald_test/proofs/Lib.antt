@@ -9,3 +9,4 @@ pub mod FaultLemmas
 pub mod ClassLemmas
 pub mod ProbabilityLemmas
 pub mod LawLemmas
+pub mod LeastLemmas

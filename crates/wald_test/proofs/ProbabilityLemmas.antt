@@ -1,9 +1,9 @@
 -- A probability over a denominator below 2^62 is a fraction within the limits.
-use Rattle.std.proofs.Common.{◌≡◌, ℕ, zero, suc, ◌/◌, ◌<◌, ◌≤◌, false, ℤ, pos, refl, ◌∙◌, arith, Result, Ok, Err}
+use Rattle.std.proofs.Common.{◌≡◌, ℕ, zero, suc, ◌/◌, ◌<◌, ◌≤◌, false, pos, refl, ◌∙◌, arith, Err}
 use Rattle.std.proofs.Math.Nat.{div-le_self}
 use Rattle.smc_num.specs.declared.fault.NumFault.{NumFault}
 use Rattle.smc_num.specs.Gcd.{gcd_of}
-use Rattle.smc_num.specs.Fraction.{Fraction, limit, fraction_of}
+use Rattle.smc_num.specs.Fraction.{limit, fraction_of}
 use Rattle.smc_num.proofs.GcdLemmas.{gcd_of-IsGcd}
 use Rattle.smc_num.proofs.LowestLemmas.{reduced_by, within-small}
 

@@ -1,12 +1,11 @@
 -- The settings: what is known of them where they are not refused.
-use Rattle.std.proofs.Common.{◌≡◌, ℕ, zero, suc, ◌+◌, ◌-◌, ◌*◌, ◌^◌, ◌<◌, ◌≤◌, ◌⊎◌, inl, inr, ⊎_elim, min, ℤ, pos, negsuc, ◌+ℤ◌, ◌*ℤ◌, ◌<ℤ◌, ◌≤ℤ◌, unsigned_abs, Bool, true, false, cond, ◌||◌, nat_lt, nat_le, refl, sym, ap, ap₂, ◌∙◌, subst, arith, mul_comm, Option, Some, None, Result, Ok, Err}
+use Rattle.std.proofs.Common.{◌≡◌, ℕ, zero, suc, ◌+◌, ◌-◌, ◌*◌, ◌^◌, ◌<◌, ◌≤◌, ◌⊎◌, ⊎_elim, min, ℤ, pos, negsuc, ◌+ℤ◌, ◌*ℤ◌, ◌<ℤ◌, ◌≤ℤ◌, unsigned_abs, true, false, ◌||◌, refl, sym, ap, subst, arith, mul_comm}
 use Rattle.std.specs.Prelude.{int_lt, int_le}
 use Rattle.std.specs.Int.{◌∣◌}
-use Rattle.std.proofs.Math.Nat.{mul-pos, mul-le-mul, mul-le-mul_right, mul-le-mul_left, mul-lt-mul_of_pos_right, dvd-add, dvd-sub, dvd-mul_left, dvd-mul_right, min-eq_left, min-eq_right}
+use Rattle.std.proofs.Math.Nat.{mul-pos, mul-le-mul, mul-le-mul_right, dvd-add, dvd-sub, dvd-mul_left, dvd-mul_right, min-eq_left, min-eq_right}
 use Rattle.std.proofs.lemmas.Bool.{or_parts, ltb-false, leb-false}
 use Rattle.std.proofs.lemmas.Bool.Decides.{nat_tests}
 use Rattle.std.proofs.lemmas.Int.{ints}
-use Rattle.sampling_plan.specs.declared.fault.PlanFault.{PlanFault}
 use Rattle.wald_test.specs.declared.terms.Terms.{Terms}
 use Rattle.wald_test.specs.Settings.{least_terms}
 use Rattle.wald_test.proofs.TermsLemmas.{IsScaled, shared_of, least_scaled, scaled_le, scaled_lt, scaled_some, parts_small}

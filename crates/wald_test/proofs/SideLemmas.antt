@@ -1,7 +1,7 @@
 -- The sums of a side enclose 2^48 times the logarithm of its number, and are not far from each other.
-use Rattle.std.proofs.Common.{◌≡◌, ◌≢◌, ℕ, zero, suc, ◌+◌, ◌*◌, ◌^◌, ◌<◌, ◌≤◌, refl, sym, ap, ◌∙◌, subst, arith}
+use Rattle.std.proofs.Common.{◌≡◌, ℕ, zero, suc, ◌+◌, ◌*◌, ◌^◌, ◌<◌, ◌≤◌, sym, ap, ◌∙◌, subst, arith}
 use Rattle.std.proofs.Math.Nat.{pos_of_ne-zero, pow-suc, mul-le-mul_left, zero-mul, mul-zero}
-use Rattle.log_bracket.proofs.BracketLemmas.{bracket_low, bracket_high, bracket_width, bracket_exact}
+use Rattle.log_bracket.proofs.BracketLemmas.{bracket_low, bracket_high, bracket_width}
 use Rattle.log_bracket.specs.Bracket.{bracket_of}
 use Rattle.wald_test.specs.Side.{Side, number_of}
 use Rattle.wald_test.specs.Sums.{low_end, high_end, lower_sum, upper_sum}

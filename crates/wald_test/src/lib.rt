@@ -10,7 +10,7 @@ mod sums;
 mod terms;
 mod wald;
 
-pub use laws::one_boundary_law;
+pub use laws::{least_terms_law, one_boundary_law};
 pub use wald::Wald;
 
 #[cfg(test)]

@@ -1,4 +1,4 @@
-use Rattle.std.proofs.Common.{◌≡◌, ◌*◌, ◌+◌, ◌≤◌, ◌<◌, ◌^◌, sym, subst, unsigned_abs}
+use Rattle.std.proofs.Common.{◌^◌, sym, subst, unsigned_abs}
 use Rattle.std.proofs.lemmas.Bool.{leb-false, ltb-false}
 use Rattle.wald_test.specs.Settings.{errors_of}
 use Rattle.wald_test.proofs.SettingsLemmas.{AreErrors, error_between, errors_known}

@@ -1,4 +1,4 @@
-use Rattle.std.proofs.Common.{◌≡◌, ◌*◌, ◌+◌, ◌-◌, ◌≤◌, ◌<◌, ◌^◌, ℕ, ℤ, min, sym, ◌∙◌, ap, ap₂, subst, arith, false, unsigned_abs}
+use Rattle.std.proofs.Common.{◌≡◌, ◌*◌, ◌+◌, ◌<◌, ◌^◌, ℕ, min, sym, ◌∙◌, ap₂, subst, arith, false, unsigned_abs}
 use Rattle.std.proofs.lemmas.Bool.{ltb-false}
 use Rattle.smc_num.specs.Fraction.{Fraction}
 use Rattle.wald_test.specs.Settings.{theta_outside, delta_not_positive, denominator_large, probabilities_of, least_terms}

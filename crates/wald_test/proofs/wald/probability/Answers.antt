@@ -1,4 +1,4 @@
-use Rattle.std.proofs.Common.{◌≡◌, ◌∙◌, sym, ap₂, arith, w64, to_z, ℤ, pos}
+use Rattle.std.proofs.Common.{◌≡◌, ◌∙◌, sym, ap₂, arith, w64, to_z, pos}
 use Rattle.std.proofs.lemmas.Int.{to_z_pos}
 use Rattle.smc_num.specs.Fraction.{fraction_of}
 use Rattle.wald_test.proofs.ProbabilityLemmas.{probability_exists}

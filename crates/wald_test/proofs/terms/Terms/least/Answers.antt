@@ -1,4 +1,4 @@
-use Rattle.std.proofs.Common.{◌<◌, ℕ, sym, subst, arith}
+use Rattle.std.proofs.Common.{arith}
 use Rattle.smc_num.proofs.GcdLemmas.{gcd_some}
 use Rattle.wald_test.proofs.terms.Terms.least.Goals as goal
 

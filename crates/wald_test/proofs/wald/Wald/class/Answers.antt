@@ -1,11 +1,11 @@
-use Rattle.std.proofs.Common.{◌≡◌, ℕ, ◌↔◌, sym, ◌∙◌, ap, ap₂, subst}
+use Rattle.std.proofs.Common.{◌≡◌, ◌↔◌, sym, ◌∙◌, ap, ap₂, subst}
 use Rattle.sampling_plan.specs.declared.class.Class.{Class}
 use Rattle.sampling_plan.specs.declared.class.Class.TheVariants.{Accept, Reject, Close, Go}
 use Rattle.wald_test.specs.declared.likelihood.Likelihood.{Likelihood}
 use Rattle.wald_test.specs.SequentialTest.{SequentialTest, IsTest}
 use Rattle.wald_test.specs.Settings.{joined}
 use Rattle.wald_test.specs.Side.{CrossesAccept, CrossesReject}
-use Rattle.wald_test.specs.Decision.{IsClose, class_of, IsNearBoundary}
+use Rattle.wald_test.specs.Decision.{IsClose, class_of}
 use Rattle.wald_test.specs.Kept.{sums_at, with_factor, compared, decided}
 use Rattle.wald_test.proofs.DecisionLemmas.{decided_by_sums, decided_by_sums-class_of, is_close-near}
 use Rattle.wald_test.proofs.ClassLemmas.{class_of-Close, class_of-Accept, class_of-Reject, class_of-Go}

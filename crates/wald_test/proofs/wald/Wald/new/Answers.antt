@@ -1,4 +1,4 @@
-use Rattle.std.proofs.Common.{◌≡◌, ◌↔◌, sym, ◌∙◌, ap, ap₂, subst, Option, Some, None, Result, Ok, Err}
+use Rattle.std.proofs.Common.{◌≡◌, sym, ◌∙◌, ap, ap₂, Option, None, Ok}
 use Rattle.smc_num.specs.Fraction.{Fraction}
 use Rattle.sampling_plan.specs.declared.fault.PlanFault.{PlanFault}
 use Rattle.wald_test.specs.SequentialTest.{SequentialTest}
