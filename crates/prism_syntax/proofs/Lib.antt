@@ -1,0 +1,4 @@
+pub mod NumberLemmas
+pub mod ListedLemmas
+pub mod FindLemmas
+pub mod SpellingLemmas

@@ -1,0 +1,137 @@
+use super::*;
+use smc_num::{Frac, Text};
+use sqlite_items::{Boxed, Items};
+use std::alloc::{AllocError, Global};
+use std::test::Fail;
+
+fn name(alloc: Global, text: &[u8]) -> Result<Expr, AllocError> {
+    Ok(Expr::Name(Text::from_bytes(alloc, text)?))
+}
+
+fn choice(alloc: Global, test: Expr, first: Expr, second: Expr) -> Result<Expr, AllocError> {
+    Ok(Expr::If(
+        Boxed::new(alloc, test)?,
+        Boxed::new(alloc, first)?,
+        Boxed::new(alloc, second)?,
+    ))
+}
+
+fn pair(alloc: Global, first: Expr, second: Expr) -> Result<Items<Expr>, AllocError> {
+    let mut parts = Items::new(alloc);
+    parts.push(first)?;
+    parts.push(second)?;
+    Ok(parts)
+}
+
+/// `a ? b : c ? d : e`
+fn conditional(alloc: Global) -> Result<Expr, AllocError> {
+    let last = choice(
+        alloc,
+        name(alloc, b"c")?,
+        name(alloc, b"d")?,
+        name(alloc, b"e")?,
+    )?;
+    choice(alloc, name(alloc, b"a")?, name(alloc, b"b")?, last)
+}
+
+/// `!x=y`
+fn negation(alloc: Global) -> Result<Expr, AllocError> {
+    let mut operators = Items::new(alloc);
+    operators.push(Op::Eq)?;
+    let operands = pair(alloc, name(alloc, b"x")?, name(alloc, b"y")?)?;
+    let equality = Expr::Level(operands, operators);
+    Ok(Expr::Not(Boxed::new(alloc, equality)?))
+}
+
+/// `-(min(one, "p"))`
+fn opposite(alloc: Global, one: Frac) -> Result<Expr, AllocError> {
+    let label = Expr::Quoted(Text::from_bytes(alloc, b"p")?);
+    let parts = pair(alloc, Expr::Whole(one), label)?;
+    let paren = Expr::Paren(Boxed::new(alloc, Expr::Call(Func::Min, parts))?);
+    Ok(Expr::Minus(Boxed::new(alloc, paren)?))
+}
+
+#[test]
+fn trees_have_a_node_for_each_part(rt: HostRuntime) -> Result<(), Fail> {
+    let alloc = rt.alloc();
+    assert_eq!(rt; nodes(&conditional(alloc)?), 7);
+    assert_eq!(rt; nodes(&negation(alloc)?), 4);
+    assert_eq!(rt; nodes(&opposite(alloc, Frac::new(1, 1)?)?), 5);
+    Ok(())
+}
+
+#[test]
+fn deep_trees_are_copied_counted_and_let_go(rt: HostRuntime) -> Result<(), Fail> {
+    let alloc = rt.alloc();
+    let mut tree = name(alloc, b"x")?;
+    for _ in 0..12_000 {
+        tree = Expr::Not(Boxed::new(alloc, tree)?);
+    }
+    for _ in 0..1_000 {
+        tree = choice(alloc, name(alloc, b"a")?, name(alloc, b"b")?, tree)?;
+    }
+    let again = tree.copy(alloc)?;
+    assert_eq!(rt; nodes(&tree), 15_001);
+    assert_eq!(rt; nodes(&again), 15_001);
+    Ok(())
+}
+
+#[test]
+fn words_and_symbols_are_found_by_their_spelling(rt: HostRuntime) -> Result<(), Fail> {
+    let words: [(&[u8], Option<Kind>); 6] = [
+        (b"dtmc", Some(Kind::Dtmc)),
+        (b"endobservables", Some(Kind::EndObservables)),
+        (b"U", Some(Kind::U)),
+        (b"u", None),
+        (b"dtmcs", None),
+        (b"floor", None),
+    ];
+    for (text, want) in words {
+        assert_eq!(rt; word(text), want);
+    }
+    let symbols: [(&[u8], Option<Kind>); 7] = [
+        (b"<=>", Some(Kind::Equivalent)),
+        (b"<=x", Some(Kind::LessEqual)),
+        (b"<-", Some(Kind::Less)),
+        (b"..5", Some(Kind::Dots)),
+        (b".5", None),
+        (b"#", None),
+        (b"", None),
+    ];
+    for (text, want) in symbols {
+        assert_eq!(rt; symbol(text), want);
+    }
+    assert_eq!(rt; spelling(&Kind::Arrow), Some(b"->".as_slice()));
+    Ok(())
+}
+
+#[test]
+fn words_are_refused_by_name(rt: HostRuntime) {
+    let refused = [Kind::Ctmc, Kind::W, Kind::R, Kind::EndInit, Kind::Rmin];
+    for kind in &refused {
+        assert!(rt; is_refused(kind), "{kind:?}");
+    }
+    let known = [Kind::Dtmc, Kind::U, Kind::Rewards, Kind::Global, Kind::X];
+    for kind in &known {
+        assert!(rt; !is_refused(kind), "{kind:?}");
+    }
+}
+
+#[test]
+fn tokens_have_their_places_in_the_grammar(rt: HostRuntime) -> Result<(), Fail> {
+    let alloc = rt.alloc();
+    assert_eq!(rt; Line::Sum.operator(&Kind::Dash), Some(Op::Sub));
+    assert_eq!(rt; Line::Product.operator(&Kind::Dash), None);
+    assert_eq!(rt; Line::Relation.inner(), Line::Sum);
+    assert!(rt; Line::Unary.is_sign(&Kind::Dash));
+    assert!(rt; Line::Equality.is_chain() && !Line::Negation.is_chain());
+    assert!(rt; Line::Negation.is_prefix() && !Line::Choice.is_prefix());
+    assert_eq!(rt; function(&Kind::Max), Some(Func::Max));
+    assert_eq!(rt;
+        function(&Kind::Name(Text::from_bytes(alloc, b"ceil")?)),
+        Some(Func::Ceil)
+    );
+    assert!(rt; takes(Func::Min, 3) && takes(Func::Pow, 1) && !takes(Func::Floor, 1));
+    assert!(rt; may_take(Func::Pow, 0) && may_take(Func::Max, 9) && !may_take(Func::Ceil, 1));
+    Ok(())
+}
