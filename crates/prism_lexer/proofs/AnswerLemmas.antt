@@ -1,0 +1,120 @@
+-- A text has one answer.
+use Rattle.std.proofs.Common.{◌≡◌, ℕ, ◌+◌, ◌<◌, List, [], length, None, ◌⊎◌, inl, inr, ⊎_elim, refl, sym, ◌∙◌, ap, subst, arith}
+use Rattle.std.specs.Prelude.{Result, Ok, Err, IfOk, All}
+use Rattle.std.proofs.lemmas.List.Elements.{All-nil, All-cons}
+use Rattle.std.specs.declared.vec.Vec.{Vec}
+use Rattle.std.specs.declared.alloc.Global.{Global}
+use Rattle.prism_syntax.specs.declared.tokens.Token.{Token}
+use Rattle.prism_syntax.specs.Tokens.{IsFirstToken, Reads}
+use Rattle.prism_syntax.specs.Tokens as read
+use Rattle.prism_syntax.specs.Formed.{IsFormedKind}
+use Rattle.prism_lexer.specs.declared.faults.LexFault.{LexFault}
+use Rattle.prism_lexer.specs.declared.faults.LexFault.TheVariants.{TooMany, BadByte, NumberTooWide, OutOfMemory}
+use Rattle.prism_lexer.specs.Shape.{BeginsNoToken}
+use Rattle.prism_lexer.specs.Answers.{IsCutInto, HasTooMany, HasBadByte, HasWideNumber, Tells, RanOut, ComesWhere, Gives, seen}
+use Rattle.prism_lexer.proofs.ReadLemmas.{nil_no_token, stuck_none, stuck_end, stuck_wide, stop_same, further}
+
+-- no two of the answers hold of one text
+
+ok_ok : (text : List ℕ) (a b : List Token) → IsCutInto text a → IsCutInto text b → a ≡ b
+ok_ok text a b x y = (stop_same text a b x.cut.end y.cut.end [] [] x.cut.read stuck_end y.cut.read stuck_end).tokens
+
+ok_bad : (text : List ℕ) (a : List Token) (at : ℕ) → IsCutInto text a → HasBadByte text at → ⊥
+ok_bad text a at x y = y.some (sym (stop_same text a y.tokens x.cut.end at [] y.rest x.cut.read stuck_end y.read (stuck_none y.rest y.clear y.none)).rests)
+
+ok_wide : (text : List ℕ) (a : List Token) (at : ℕ) → IsCutInto text a → HasWideNumber text at → ⊥
+ok_wide text a at x y =
+    let same = stop_same text a y.tokens x.cut.end at [] y.rest x.cut.read stuck_end y.read (stuck_wide y.rest y.bytes y.after y.clear y.wide) in
+    nil_no_token y.bytes y.after None (same.rests ∙ y.wide.cut) y.wide.token
+
+many_ok : (text : List ℕ) (a : List Token) → HasTooMany text → IsCutInto text a → ⊥
+many_ok text a x y =
+    ⊎_elim
+    (λ (same : ([] ≡ x.rest) × (length a ≡ length x.tokens)). x.more (subst BeginsNoToken same.0 nil_no_token))
+    (λ (more : length x.tokens < length a). absurd (omega (arith, more, x.full, y.room)))
+    (further text x.tokens a x.at y.cut.end x.rest [] x.read x.clear y.cut.read stuck_end)
+
+many_bad : (text : List ℕ) (at : ℕ) → HasTooMany text → HasBadByte text at → ⊥
+many_bad text at x y =
+    ⊎_elim
+    (λ (same : (y.rest ≡ x.rest) × (length y.tokens ≡ length x.tokens)). x.more (subst BeginsNoToken same.0 y.none))
+    (λ (more : length x.tokens < length y.tokens). absurd (omega (arith, more, x.full, y.room)))
+    (further text x.tokens y.tokens x.at at x.rest y.rest x.read x.clear y.read (stuck_none y.rest y.clear y.none))
+
+many_wide : (text : List ℕ) (at : ℕ) → HasTooMany text → HasWideNumber text at → ⊥
+many_wide text at x y =
+    ⊎_elim
+    (λ (same : (y.rest ≡ x.rest) × (length y.tokens ≡ length x.tokens)). absurd (omega (arith, same.1, x.full, y.room)))
+    (λ (more : length x.tokens < length y.tokens). absurd (omega (arith, more, x.full, y.room)))
+    (further text x.tokens y.tokens x.at at x.rest y.rest x.read x.clear y.read (stuck_wide y.rest y.bytes y.after y.clear y.wide))
+
+bad_bad : (text : List ℕ) (at place : ℕ) → HasBadByte text at → HasBadByte text place → at ≡ place
+bad_bad text at place x y = (stop_same text x.tokens y.tokens at place x.rest y.rest x.read (stuck_none x.rest x.clear x.none) y.read (stuck_none y.rest y.clear y.none)).places
+
+bad_wide : (text : List ℕ) (at place : ℕ) → HasBadByte text at → HasWideNumber text place → ⊥
+bad_wide text at place x y =
+    let same = stop_same text x.tokens y.tokens at place x.rest y.rest x.read (stuck_none x.rest x.clear x.none) y.read (stuck_wide y.rest y.bytes y.after y.clear y.wide) in
+    x.none y.bytes y.after None (same.rests ∙ y.wide.cut) y.wide.token
+
+wide_wide : (text : List ℕ) (at place : ℕ) → HasWideNumber text at → HasWideNumber text place → at ≡ place
+wide_wide text at place x y =
+    (stop_same text x.tokens y.tokens at place x.rest y.rest x.read (stuck_wide x.rest x.bytes x.after x.clear x.wide) y.read (stuck_wide y.rest y.bytes y.after y.clear y.wide)).places
+
+-- ---- what an answer that is true of the text says
+
+pub says_ok : (text : List ℕ) (r : Result (Vec Token Global) LexFault) → Tells text (seen r) → IfOk r (λ v. IsCutInto text v.items)
+says_ok text (Ok v) told = told
+says_ok text (Err fault) told = tt
+
+-- tokens that are read are well formed
+reads_formed : (at : ℕ) (text : List ℕ) (tokens : List Token) (end : ℕ) (rest : List ℕ) → Reads at text tokens end rest → All (λ t. IsFormedKind t.kind) tokens
+reads_formed _ _ _ _ _ (read.done at text) = All-nil (λ (t : Token). IsFormedKind t.kind)
+reads_formed _ _ _ _ _ (read.blank at c text tokens end rest is reads) = reads_formed (at + 1) text tokens end rest reads
+reads_formed _ _ _ _ _ (read.comment at line text tokens end rest one ends reads) = reads_formed (at + (2 + length line)) text tokens end rest reads
+reads_formed _ _ _ _ _ (read.token at text bytes kind after tokens end rest clear first reads) =
+    All-cons (λ (t : Token). IsFormedKind t.kind) (record { kind = kind; from = at; to = at + length bytes }) tokens (bytes, first.token)
+    (reads_formed (at + length bytes) after tokens end rest reads)
+
+pub says_formed : (text : List ℕ) (r : Result (Vec Token Global) LexFault) → Tells text (seen r) → IfOk r (λ v. All (λ t. IsFormedKind t.kind) v.items)
+says_formed text (Ok v) told = reads_formed 0 text v.items told.cut.end [] told.cut.read
+says_formed text (Err fault) told = tt
+
+pub says_all : (text : List ℕ) (r : Result (Vec Token Global) LexFault) → Tells text (seen r) → (ts : List Token) → IsCutInto text ts → Gives r ts
+says_all text (Ok v) told ts are = ok_ok text v.items ts told are
+says_all text (Err TooMany) told ts are = many_ok text ts told are
+says_all text (Err (BadByte at)) told ts are = ok_bad text ts at are told
+says_all text (Err (NumberTooWide at)) told ts are = ok_wide text ts at are told
+says_all text (Err (OutOfMemory fault)) told ts are = tt
+
+told_at : (text : List ℕ) (r : Result (Vec Token Global) LexFault) (fault : LexFault) → Tells text (seen r) → r ≡ Err fault → Tells text (Err fault)
+told_at text r fault told same = subst (λ q. Tells text (seen q)) same told
+
+pub says_too_many : (text : List ℕ) (r : Result (Vec Token Global) LexFault) → Tells text (seen r) → ComesWhere r TooMany (HasTooMany text)
+says_too_many text r told = record { only = told_at text r TooMany told; always = always r told }
+  where
+    always : (r : Result (Vec Token Global) LexFault) → Tells text (seen r) → HasTooMany text → (r ≡ Err TooMany) ⊎ RanOut r
+    always (Ok v) told fact = absurd (many_ok text v.items fact told)
+    always (Err TooMany) told fact = inl refl
+    always (Err (BadByte at)) told fact = absurd (many_bad text at fact told)
+    always (Err (NumberTooWide at)) told fact = absurd (many_wide text at fact told)
+    always (Err (OutOfMemory fault)) told fact = inr tt
+
+pub says_bad_byte : (text : List ℕ) (r : Result (Vec Token Global) LexFault) → Tells text (seen r) → (at : ℕ) → ComesWhere r (BadByte at) (HasBadByte text at)
+says_bad_byte text r told at = record { only = told_at text r (BadByte at) told; always = always r told }
+  where
+    always : (r : Result (Vec Token Global) LexFault) → Tells text (seen r) → HasBadByte text at → (r ≡ Err (BadByte at)) ⊎ RanOut r
+    always (Ok v) told fact = absurd (ok_bad text v.items at told fact)
+    always (Err TooMany) told fact = absurd (many_bad text at told fact)
+    always (Err (BadByte place)) told fact = inl (ap (λ p. Err (BadByte p)) (bad_bad text place at told fact))
+    always (Err (NumberTooWide place)) told fact = absurd (bad_wide text at place fact told)
+    always (Err (OutOfMemory fault)) told fact = inr tt
+
+pub says_too_wide : (text : List ℕ) (r : Result (Vec Token Global) LexFault) → Tells text (seen r) → (at : ℕ) → ComesWhere r (NumberTooWide at) (HasWideNumber text at)
+says_too_wide text r told at = record { only = told_at text r (NumberTooWide at) told; always = always r told }
+  where
+    always : (r : Result (Vec Token Global) LexFault) → Tells text (seen r) → HasWideNumber text at → (r ≡ Err (NumberTooWide at)) ⊎ RanOut r
+    always (Ok v) told fact = absurd (ok_wide text v.items at told fact)
+    always (Err TooMany) told fact = absurd (many_wide text at told fact)
+    always (Err (BadByte place)) told fact = absurd (bad_wide text place at told fact)
+    always (Err (NumberTooWide place)) told fact = inl (ap (λ p. Err (NumberTooWide p)) (wide_wide text place at told fact))
+    always (Err (OutOfMemory fault)) told fact = inr tt

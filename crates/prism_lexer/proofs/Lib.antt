@@ -1,0 +1,9 @@
+pub mod RunLemmas
+pub mod NumberLemmas
+pub mod FormLemmas
+pub mod KindLemmas
+pub mod ScanLemmas
+pub mod BlankLemmas
+pub mod ReadLemmas
+pub mod AnswerLemmas
+pub mod CutLemmas

@@ -1,0 +1,18 @@
+-- Blanks and comments before a token.
+use Rattle.std.specs.Prelude.{◌≡◌, ◌+◌, ◌≤◌, ◌==◌, not, ℕ, List, [], ◌∷◌, length, IsTrue}
+use Rattle.std.specs.List.{prefix_len}
+use Rattle.prism_syntax.specs.Tokens.{BeginsNoComment, is_blank, Reads}
+
+-- how many bytes stand before the first line feed of a text
+abbrev pub line_len : List ℕ → ℕ
+line_len text = prefix_len (λ c. not (c == 10)) text
+
+-- neither a blank nor a comment begins a text
+pub record StandsClear (text : List ℕ) : Type 0 where
+  pub no_blank : (c : ℕ) (rest : List ℕ) → text ≡ c ∷ rest → IsTrue (is_blank c) → ⊥
+  pub no_comment : BeginsNoComment text
+
+-- blanks and comments alone stand before the rest
+pub record Passes (text rest : List ℕ) : Type 0 where
+  pub shorter : length rest ≤ length text
+  pub reads : (at end : ℕ) → at + length text ≡ end + length rest → Reads at text [] end rest

@@ -1,0 +1,4 @@
+pub mod Scan
+pub mod Shape
+pub mod Blanks
+pub mod Answers
