@@ -1,0 +1,17 @@
+pub mod RankLemmas
+pub mod TextLemmas
+pub mod TwoTextLemmas
+pub mod TwoChoiceLemmas
+pub mod TwoPrimaryLemmas
+pub mod CompareLemmas
+pub mod ChainLemmas
+pub mod PrefixLemmas
+pub mod LongestLemmas
+pub mod PrimaryLemmas
+pub mod CallLemmas
+pub mod AnswerLemmas
+pub mod SignLemmas
+pub mod LoopLemmas
+pub mod BranchLemmas
+pub mod AtomLemmas
+pub mod FormedLemmas
