@@ -1,0 +1,13 @@
+pub mod PlaceLemmas
+pub mod RewardsLemmas
+pub mod OthersLemmas
+pub mod WordLemmas
+pub mod RunLemmas
+pub mod QueryLemmas
+pub mod NestingLemmas
+pub mod ArrowLemmas
+pub mod ChainLemmas
+pub mod ArrowPlaceLemmas
+pub mod LongChainLemmas
+pub mod TwoArrowLemmas
+pub mod LaterArrowLemmas
