@@ -1,0 +1,14 @@
+mod CommandLemmas
+mod AnswerLemmas
+mod DividesLemmas
+mod EndLemmas
+mod EndedLemmas
+mod FollowedLemmas
+mod ForeignLemmas
+mod HeadLemmas
+mod JoinLemmas
+mod BranchLemmas
+mod LookLemmas
+mod PartLemmas
+mod SeparatedLemmas
+mod UpdateLemmas

@@ -1,0 +1,4 @@
+pub mod Marks
+pub mod Parts
+pub mod Answers
+pub mod Followed
