@@ -1,0 +1,33 @@
+use Rattle.std.proofs.lemmas.Result.{err_from_is_err_and}
+use Rattle.prism_model.proofs.AnswerLemmas.{passed_up}
+use Rattle.prism_model.proofs.SequenceLemmas.{reads_both, reads_no_first, reads_no_second, reads_made, reads_none_made}
+use Rattle.prism_model.proofs.LineLemmas.{const_stands}
+use Rattle.prism_model.proofs.SortLemmas.{sorted_read, no_sorted_read}
+use Rattle.prism_model.proofs.consts.constant.Goals as goal
+
+pub returns-in_err-rest : goal.returns-in_err-rest
+returns-in_err-rest c =
+    let fault = err_from_is_err_and c.from_residual.result c.from_residual.ensures.1 in
+    rw (fault.1, fault.2)
+    (passed_up c.in_err-rest.field-0.0
+    (λ left none. reads_none_made (const_stands _) (reads_no_first none))
+    c.in_err-rest.ensures)
+
+pub returns-in_err-name : goal.returns-in_err-name
+returns-in_err-name c =
+    let fault = err_from_is_err_and c.from_residual-in_err-name.result c.from_residual-in_err-name.ensures.1 in
+    rw (fault.1, fault.2)
+    (passed_up c.in_err-name.field-0.0
+    (λ left none. reads_none_made (const_stands _) (reads_no_second c.in_ok-rest.ensures (reads_no_first (no_sorted_read c.sort-sort.ensures none))))
+    c.in_err-name.ensures)
+
+pub returns-in_err-value : goal.returns-in_err-value
+returns-in_err-value c =
+    let fault = err_from_is_err_and c.from_residual-in_err-value.result c.from_residual-in_err-value.ensures.1 in
+    rw (fault.1, fault.2)
+    (passed_up c.in_err-value.field-0.0
+    (λ left none. reads_none_made (const_stands _) (reads_no_second c.in_ok-rest.ensures (reads_no_second (sorted_read c.sort-sort.ensures c.in_ok-name.ensures) none)))
+    c.in_err-value.ensures)
+
+pub returns : goal.returns
+returns c = reads_made (const_stands _) (reads_both c.in_ok-rest.ensures (reads_both (sorted_read c.sort-sort.ensures c.in_ok-name.ensures) c.in_ok-value.ensures))

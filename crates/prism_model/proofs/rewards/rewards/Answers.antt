@@ -1,0 +1,24 @@
+use Rattle.std.proofs.lemmas.Result.{err_from_is_err_and}
+use Rattle.prism_model.proofs.AnswerLemmas.{passed_up}
+use Rattle.prism_model.proofs.SequenceLemmas.{reads_both, reads_no_first, reads_no_second, reads_made, reads_none_made}
+use Rattle.prism_model.proofs.RewardsLemmas.{rewards_stands}
+use Rattle.prism_model.proofs.rewards.rewards.Goals as goal
+
+pub returns-in_err-rest : goal.returns-in_err-rest
+returns-in_err-rest c =
+    let fault = err_from_is_err_and c.from_residual.result c.from_residual.ensures.1 in
+    rw (fault.1, fault.2)
+    (passed_up c.in_err-rest.field-0.0
+    (λ left none. reads_none_made (rewards_stands _) (reads_no_first none))
+    c.in_err-rest.ensures)
+
+pub returns-in_err-rest-2 : goal.returns-in_err-rest-2
+returns-in_err-rest-2 c =
+    let fault = err_from_is_err_and c.from_residual-in_err-rest-2.result c.from_residual-in_err-rest-2.ensures.1 in
+    rw (fault.1, fault.2)
+    (passed_up c.in_err-rest-2.field-0.0
+    (λ left none. reads_none_made (rewards_stands _) (reads_no_second c.in_ok-rest.ensures none))
+    c.in_err-rest-2.ensures)
+
+pub returns : goal.returns
+returns c = reads_made (rewards_stands _) (reads_both c.in_ok-rest.ensures c.in_ok-rest-2.ensures)

@@ -1,0 +1,5 @@
+pub mod Marks
+pub mod Pieces
+pub mod Runs
+pub mod Items
+pub mod Answers
