@@ -1,0 +1,9 @@
+pub mod AnswerLemmas
+pub mod StepLemmas
+pub mod FoundLemmas
+pub mod RewardsLemmas
+pub mod LineRewardsLemmas
+pub mod StandsLemmas
+pub mod LineFormedLemmas
+pub mod ModelFormedLemmas
+pub mod AnswerFormedLemmas
