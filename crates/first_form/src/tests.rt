@@ -4,6 +4,230 @@ use std::alloc::{AllocError, Global};
 use std::process::Abort;
 use std::test::Fail;
 
+/// Texts, and whether each is a model.
+static MODELS: [(&str, bool); 71] = [
+    (
+        "dtmc module m x : [0..1] init 0; [] x=0 -> 1/2 : (x'=0) + 1/2 : (x'=1); endmodule",
+        true,
+    ),
+    (
+        "dtmc module m x:[0..1]init 0;[]x=0->1/1:(x'=1);endmodule",
+        true,
+    ),
+    ("dtmc module m endmodule", true),
+    (
+        "dtmc\tmodule\nm\rx:[0 .. 1]\x0cinit 0; [ ] x = 0 -> 1 / 1 : ( x ' = 1 ) ; endmodule",
+        true,
+    ),
+    ("dtmc // a chain (\nmodule m//;\nendmodule // \"end", true),
+    ("dtmc module m // it goes on\rendmodule", false),
+    ("dtmc module m // it ends\r\nendmodule", true),
+    ("dtmc module m / / it is none\nendmodule", false),
+    ("dtmc module m x:[0...1] init 0; endmodule", false),
+    ("dtmc module m x:[0. .1] init 0; endmodule", false),
+    ("dtmc module m x:[0..1.] init 0; endmodule", false),
+    ("dtmc module m x:[0..1x] init 0; endmodule", false),
+    ("dtmc module m x:[0..1e5] init 0; endmodule", false),
+    ("dtmc module m x:[0..1] init 0e; endmodule", false),
+    ("dtmc module m x:[0..1] init0; endmodule", false),
+    ("dtmc module m x:[0..1] init 0.5; endmodule", false),
+    (
+        "dtmc module m x:[0..1] init 0; [] x=0 -> 0.5:(x'=0) + 0.5:(x'=1); endmodule",
+        false,
+    ),
+    (
+        "dtmc module m x:[0..1] init 0; [] x=>0 -> 1/1:(x'=0); endmodule",
+        false,
+    ),
+    (
+        "dtmc module m x:[0..1] init 0; [] x<=>0 -> 1/1:(x'=0); endmodule",
+        false,
+    ),
+    (
+        "dtmc module m x:[0..1] init 0; [] x=0 - > 1/1:(x'=0); endmodule",
+        false,
+    ),
+    ("dtmcmodule m endmodule", false),
+    ("dtmc module F endmodule", false),
+    ("dtmc module m rate:[0..1] init 0; endmodule", false),
+    ("dtmc module m init:[0..1] init 0; endmodule", false),
+    (
+        "dtmc module _ F1:[0..1] init 0; _x:[0..1] init 0; endmodules:[0..1] init 0; endmodule",
+        true,
+    ),
+    ("dtmc module m 1x:[0..1] init 0; endmodule", false),
+    (
+        "dtmc module m x:[0..1] init 0; [] y=0 -> 1/1:(x'=0); endmodule",
+        false,
+    ),
+    (
+        "dtmc module m x:[0..1] init 0; [] x=0 -> 1/1:(y'=0); endmodule",
+        false,
+    ),
+    (
+        "dtmc module m x:[0..1] init 0; [] m=0 -> 1/1:(x'=0); endmodule",
+        false,
+    ),
+    (
+        "dtmc module m x:[0..1] init 0; x:[0..1] init 0; endmodule",
+        false,
+    ),
+    (
+        "dtmc module x x:[0..1] init 0; [] x=0 -> 1/1:(x'=0); endmodule",
+        true,
+    ),
+    ("dtmc module m x:[1..1] init 1; endmodule", true),
+    ("dtmc module m x:[1..0] init 0; endmodule", false),
+    ("dtmc module m x:[1..2] init 0; endmodule", false),
+    ("dtmc module m x:[0..1] init 2; endmodule", false),
+    (
+        "dtmc module m x:[1..2] init 1; [] x=1 -> 1/1:(x'=2); endmodule",
+        true,
+    ),
+    (
+        "dtmc module m x:[1..2] init 1; [] x=1 -> 1/1:(x'=0); endmodule",
+        false,
+    ),
+    (
+        "dtmc module m x:[1..2] init 1; [] x=1 -> 1/1:(x'=3); endmodule",
+        false,
+    ),
+    (
+        "dtmc module m x:[0..1] init 0; [] x=7 -> 1/1:(x'=0); endmodule",
+        true,
+    ),
+    (
+        "dtmc module m x:[0..1] init 0; [] x=0 -> 1/2:(x'=0) + 2/4:(x'=1); endmodule",
+        false,
+    ),
+    (
+        "dtmc module m x:[0..1] init 0; [] x=0 -> 1/4:(x'=0) + 3/4:(x'=1); endmodule",
+        true,
+    ),
+    (
+        "dtmc module m x:[0..1] init 0; [] x=0 -> 0/1:(x'=0) + 1/1:(x'=1); endmodule",
+        true,
+    ),
+    (
+        "dtmc module m x:[0..1] init 0; [] x=0 -> 1/4:(x'=0) + 2/4:(x'=1); endmodule",
+        false,
+    ),
+    (
+        "dtmc module m x:[0..1] init 0; [] x=0 -> 2/4:(x'=0) + 3/4:(x'=1); endmodule",
+        false,
+    ),
+    (
+        "dtmc module m x:[0..1] init 0; [] x=0 -> 0/0:(x'=0); endmodule",
+        false,
+    ),
+    (
+        "dtmc module m x:[0..1] init 0; [] x=0 -> 281474976710656/281474976710656:(x'=0); endmodule",
+        true,
+    ),
+    (
+        "dtmc module m x:[0..1] init 0; [] x=0 -> 281474976710657/281474976710657:(x'=0); endmodule",
+        false,
+    ),
+    (
+        "dtmc module m x:[0..4611686018427387903] init 4611686018427387903; endmodule",
+        true,
+    ),
+    (
+        "dtmc module m x:[0..4611686018427387904] init 0; endmodule",
+        false,
+    ),
+    (
+        "dtmc module m x:[0..99999999999999999999999999] init 0; endmodule",
+        false,
+    ),
+    (
+        "dtmc module m x:[00000000000000000000000000..01] init 000; endmodule",
+        true,
+    ),
+    ("dtmc module m x:[0..1]; endmodule", false),
+    ("dtmc module m x:bool init 0; endmodule", false),
+    ("dtmc module m x:[0-1..1] init 0; endmodule", false),
+    ("dtmc module m x:[0..1] init 0 endmodule", false),
+    (
+        "dtmc module m x:[0..1] init 0; [] x=0 -> 1/1:true; endmodule",
+        false,
+    ),
+    (
+        "dtmc module m x:[0..1] init 0; [] x=0 -> (x'=1); endmodule",
+        false,
+    ),
+    (
+        "dtmc module m x:[0..1] init 0; [] true -> 1/1:(x'=1); endmodule",
+        false,
+    ),
+    (
+        "dtmc module m x:[0..1] init 0; [a] x=0 -> 1/1:(x'=1); endmodule",
+        false,
+    ),
+    (
+        "dtmc module m x:[0..1] init 0; [] x=0 -> ; endmodule",
+        false,
+    ),
+    (
+        "dtmc module m x:[0..1] init 0; [] x=0 -> 1/1:(x'=1) +; endmodule",
+        false,
+    ),
+    (
+        "dtmc module m x:[0..1] init 0; [] x=0 -> 1/1:(x'=1) endmodule",
+        false,
+    ),
+    (
+        "dtmc module m [] x=0 -> 1/1:(x'=1); x:[0..1] init 0; endmodule",
+        false,
+    ),
+    ("dtmc module m endmodule module n endmodule", false),
+    ("dtmc module m endmodule ;", false),
+    ("dtmc module m x:[0..1] init 0;", false),
+    ("ctmc module m endmodule", false),
+    ("probabilistic module m endmodule", false),
+    ("module m endmodule", false),
+    ("", false),
+    (" // nothing", false),
+];
+
+/// Texts, and whether each is a property over the variables `x` and `e`.
+static PROPERTIES: [(&str, bool); 34] = [
+    ("P>=1/2[F<=20 x=1]", true),
+    (" P >= 1 / 2 [ F <= 20 x = 1 ] // it is reached", true),
+    ("P>=1/2[F<=20x=1]", true),
+    ("P>=1/2[F<=3e=1]", true),
+    ("P>=1/2[F<=3e5=1]", false),
+    ("P>=1/2[F<=3e+5=1]", false),
+    ("P>=1/2[F<=3e+=1]", false),
+    ("P>=3/2[F<=20 x=1]", true),
+    ("P>=0/1[F<=20 x=1]", true),
+    ("P>=1/0[F<=20 x=1]", false),
+    ("P>=1/4294967296[F<=20 x=1]", true),
+    ("P>=1/4611686018427387904[F<=20 x=1]", false),
+    ("P>=0.5[F<=20 x=1]", false),
+    ("P>=1[F<=20 x=1]", false),
+    ("P>1/2[F<=20 x=1]", false),
+    ("P<=1/2[F<=20 x=1]", false),
+    ("P=>1/2[F<=20 x=1]", false),
+    ("P> =1/2[F<=20 x=1]", false),
+    ("P>=1/2[F<20 x=1]", false),
+    ("P>=1/2[F<=>20 x=1]", false),
+    ("P>=1/2[G<=20 x=1]", false),
+    ("P>=1/2[F x=1]", false),
+    ("P>=1/2[F<=1000000 x=1]", true),
+    ("P>=1/2[F<=1000001 x=1]", false),
+    ("P>=1/2[F<=20 y=1]", false),
+    ("P>=1/2[F<=20 x=7]", true),
+    ("P>=1/2[F<=20 x=4611686018427387903]", true),
+    ("P>=1/2[F<=20 x=4611686018427387904]", false),
+    ("P>=1/2[F<=20 \"x\"]", false),
+    ("P>=1/2[F<=20 x!=1]", false),
+    ("P>=1/2[F<=20 x=1&e=1]", false),
+    ("P>=1/2[F<=20 x=1", false),
+    ("P>=1/2[F<=20 x=1];", false),
+    ("", false),
+];
+
 /// Whether a text is that of a chain.
 fn is_model(alloc: Global, text: &[u8]) -> Result<bool, AllocError> {
     Ok(model(alloc, text)?.is_some())
@@ -44,192 +268,8 @@ fn add_commands(
 fn a_text_is_a_model_just_where_the_grammar_and_its_conditions_say_so(
     rt: HostRuntime,
 ) -> Result<(), Fail> {
-    let cases = [
-        (
-            "dtmc module m x : [0..1] init 0; [] x=0 -> 1/2 : (x'=0) + 1/2 : (x'=1); endmodule",
-            true,
-        ),
-        (
-            "dtmc module m x:[0..1]init 0;[]x=0->1/1:(x'=1);endmodule",
-            true,
-        ),
-        ("dtmc module m endmodule", true),
-        (
-            "dtmc\tmodule\nm\rx:[0 .. 1]\x0cinit 0; [ ] x = 0 -> 1 / 1 : ( x ' = 1 ) ; endmodule",
-            true,
-        ),
-        ("dtmc // a chain (\nmodule m//;\nendmodule // \"end", true),
-        ("dtmc module m // it goes on\rendmodule", false),
-        ("dtmc module m // it ends\r\nendmodule", true),
-        ("dtmc module m / / it is none\nendmodule", false),
-        ("dtmc module m x:[0...1] init 0; endmodule", false),
-        ("dtmc module m x:[0. .1] init 0; endmodule", false),
-        ("dtmc module m x:[0..1.] init 0; endmodule", false),
-        ("dtmc module m x:[0..1x] init 0; endmodule", false),
-        ("dtmc module m x:[0..1e5] init 0; endmodule", false),
-        ("dtmc module m x:[0..1] init 0e; endmodule", false),
-        ("dtmc module m x:[0..1] init0; endmodule", false),
-        ("dtmc module m x:[0..1] init 0.5; endmodule", false),
-        (
-            "dtmc module m x:[0..1] init 0; [] x=0 -> 0.5:(x'=0) + 0.5:(x'=1); endmodule",
-            false,
-        ),
-        (
-            "dtmc module m x:[0..1] init 0; [] x=>0 -> 1/1:(x'=0); endmodule",
-            false,
-        ),
-        (
-            "dtmc module m x:[0..1] init 0; [] x<=>0 -> 1/1:(x'=0); endmodule",
-            false,
-        ),
-        (
-            "dtmc module m x:[0..1] init 0; [] x=0 - > 1/1:(x'=0); endmodule",
-            false,
-        ),
-        ("dtmcmodule m endmodule", false),
-        ("dtmc module F endmodule", false),
-        ("dtmc module m rate:[0..1] init 0; endmodule", false),
-        ("dtmc module m init:[0..1] init 0; endmodule", false),
-        (
-            "dtmc module _ F1:[0..1] init 0; _x:[0..1] init 0; endmodules:[0..1] init 0; endmodule",
-            true,
-        ),
-        ("dtmc module m 1x:[0..1] init 0; endmodule", false),
-        (
-            "dtmc module m x:[0..1] init 0; [] y=0 -> 1/1:(x'=0); endmodule",
-            false,
-        ),
-        (
-            "dtmc module m x:[0..1] init 0; [] x=0 -> 1/1:(y'=0); endmodule",
-            false,
-        ),
-        (
-            "dtmc module m x:[0..1] init 0; [] m=0 -> 1/1:(x'=0); endmodule",
-            false,
-        ),
-        (
-            "dtmc module m x:[0..1] init 0; x:[0..1] init 0; endmodule",
-            false,
-        ),
-        (
-            "dtmc module x x:[0..1] init 0; [] x=0 -> 1/1:(x'=0); endmodule",
-            true,
-        ),
-        ("dtmc module m x:[1..1] init 1; endmodule", true),
-        ("dtmc module m x:[1..0] init 0; endmodule", false),
-        ("dtmc module m x:[1..2] init 0; endmodule", false),
-        ("dtmc module m x:[0..1] init 2; endmodule", false),
-        (
-            "dtmc module m x:[1..2] init 1; [] x=1 -> 1/1:(x'=2); endmodule",
-            true,
-        ),
-        (
-            "dtmc module m x:[1..2] init 1; [] x=1 -> 1/1:(x'=0); endmodule",
-            false,
-        ),
-        (
-            "dtmc module m x:[1..2] init 1; [] x=1 -> 1/1:(x'=3); endmodule",
-            false,
-        ),
-        (
-            "dtmc module m x:[0..1] init 0; [] x=7 -> 1/1:(x'=0); endmodule",
-            true,
-        ),
-        (
-            "dtmc module m x:[0..1] init 0; [] x=0 -> 1/2:(x'=0) + 2/4:(x'=1); endmodule",
-            false,
-        ),
-        (
-            "dtmc module m x:[0..1] init 0; [] x=0 -> 1/4:(x'=0) + 3/4:(x'=1); endmodule",
-            true,
-        ),
-        (
-            "dtmc module m x:[0..1] init 0; [] x=0 -> 0/1:(x'=0) + 1/1:(x'=1); endmodule",
-            true,
-        ),
-        (
-            "dtmc module m x:[0..1] init 0; [] x=0 -> 1/4:(x'=0) + 2/4:(x'=1); endmodule",
-            false,
-        ),
-        (
-            "dtmc module m x:[0..1] init 0; [] x=0 -> 2/4:(x'=0) + 3/4:(x'=1); endmodule",
-            false,
-        ),
-        (
-            "dtmc module m x:[0..1] init 0; [] x=0 -> 0/0:(x'=0); endmodule",
-            false,
-        ),
-        (
-            "dtmc module m x:[0..1] init 0; [] x=0 -> 281474976710656/281474976710656:(x'=0); endmodule",
-            true,
-        ),
-        (
-            "dtmc module m x:[0..1] init 0; [] x=0 -> 281474976710657/281474976710657:(x'=0); endmodule",
-            false,
-        ),
-        (
-            "dtmc module m x:[0..4611686018427387903] init 4611686018427387903; endmodule",
-            true,
-        ),
-        (
-            "dtmc module m x:[0..4611686018427387904] init 0; endmodule",
-            false,
-        ),
-        (
-            "dtmc module m x:[0..99999999999999999999999999] init 0; endmodule",
-            false,
-        ),
-        (
-            "dtmc module m x:[00000000000000000000000000..01] init 000; endmodule",
-            true,
-        ),
-        ("dtmc module m x:[0..1]; endmodule", false),
-        ("dtmc module m x:bool init 0; endmodule", false),
-        ("dtmc module m x:[0-1..1] init 0; endmodule", false),
-        ("dtmc module m x:[0..1] init 0 endmodule", false),
-        (
-            "dtmc module m x:[0..1] init 0; [] x=0 -> 1/1:true; endmodule",
-            false,
-        ),
-        (
-            "dtmc module m x:[0..1] init 0; [] x=0 -> (x'=1); endmodule",
-            false,
-        ),
-        (
-            "dtmc module m x:[0..1] init 0; [] true -> 1/1:(x'=1); endmodule",
-            false,
-        ),
-        (
-            "dtmc module m x:[0..1] init 0; [a] x=0 -> 1/1:(x'=1); endmodule",
-            false,
-        ),
-        (
-            "dtmc module m x:[0..1] init 0; [] x=0 -> ; endmodule",
-            false,
-        ),
-        (
-            "dtmc module m x:[0..1] init 0; [] x=0 -> 1/1:(x'=1) +; endmodule",
-            false,
-        ),
-        (
-            "dtmc module m x:[0..1] init 0; [] x=0 -> 1/1:(x'=1) endmodule",
-            false,
-        ),
-        (
-            "dtmc module m [] x=0 -> 1/1:(x'=1); x:[0..1] init 0; endmodule",
-            false,
-        ),
-        ("dtmc module m endmodule module n endmodule", false),
-        ("dtmc module m endmodule ;", false),
-        ("dtmc module m x:[0..1] init 0;", false),
-        ("ctmc module m endmodule", false),
-        ("probabilistic module m endmodule", false),
-        ("module m endmodule", false),
-        ("", false),
-        (" // nothing", false),
-    ];
-    for (text, expected) in cases {
-        assert_eq!(rt; is_model(rt.alloc(), text.as_bytes())?, expected, "{text}");
+    for (text, expected) in MODELS.iter() {
+        assert_eq!(rt; is_model(rt.alloc(), text.as_bytes())?, *expected, "{text}");
     }
     assert!(rt; is_model(rt.alloc(), b"dtmc // \xff\x00\nmodule m endmodule")?);
     assert!(rt; !is_model(rt.alloc(), b"dtmc \xff module m endmodule")?);
@@ -272,45 +312,9 @@ fn a_text_is_a_property_just_where_the_grammar_and_its_conditions_say_so(
     rt: HostRuntime,
 ) -> Result<(), Fail> {
     let chain = two_variables(rt.alloc())?.ok_or("no model")?;
-    let cases = [
-        ("P>=1/2[F<=20 x=1]", true),
-        (" P >= 1 / 2 [ F <= 20 x = 1 ] // it is reached", true),
-        ("P>=1/2[F<=20x=1]", true),
-        ("P>=1/2[F<=3e=1]", true),
-        ("P>=1/2[F<=3e5=1]", false),
-        ("P>=1/2[F<=3e+5=1]", false),
-        ("P>=1/2[F<=3e+=1]", false),
-        ("P>=3/2[F<=20 x=1]", true),
-        ("P>=0/1[F<=20 x=1]", true),
-        ("P>=1/0[F<=20 x=1]", false),
-        ("P>=1/4294967296[F<=20 x=1]", true),
-        ("P>=1/4611686018427387904[F<=20 x=1]", false),
-        ("P>=0.5[F<=20 x=1]", false),
-        ("P>=1[F<=20 x=1]", false),
-        ("P>1/2[F<=20 x=1]", false),
-        ("P<=1/2[F<=20 x=1]", false),
-        ("P=>1/2[F<=20 x=1]", false),
-        ("P> =1/2[F<=20 x=1]", false),
-        ("P>=1/2[F<20 x=1]", false),
-        ("P>=1/2[F<=>20 x=1]", false),
-        ("P>=1/2[G<=20 x=1]", false),
-        ("P>=1/2[F x=1]", false),
-        ("P>=1/2[F<=1000000 x=1]", true),
-        ("P>=1/2[F<=1000001 x=1]", false),
-        ("P>=1/2[F<=20 y=1]", false),
-        ("P>=1/2[F<=20 x=7]", true),
-        ("P>=1/2[F<=20 x=4611686018427387903]", true),
-        ("P>=1/2[F<=20 x=4611686018427387904]", false),
-        ("P>=1/2[F<=20 \"x\"]", false),
-        ("P>=1/2[F<=20 x!=1]", false),
-        ("P>=1/2[F<=20 x=1&e=1]", false),
-        ("P>=1/2[F<=20 x=1", false),
-        ("P>=1/2[F<=20 x=1];", false),
-        ("", false),
-    ];
-    for (text, expected) in cases {
+    for (text, expected) in PROPERTIES.iter() {
         let found = property(rt.alloc(), text.as_bytes(), &chain)?.is_some();
-        assert_eq!(rt; found, expected, "{text}");
+        assert_eq!(rt; found, *expected, "{text}");
     }
     Ok(())
 }
