@@ -12,9 +12,10 @@ use Rattle.prism_syntax.specs.Models as models
 use Rattle.prism_syntax.specs.Models.IsWeighted.{weighted}
 use Rattle.prism_syntax.specs.Models.AreBranches.{alone, several}
 use Rattle.prism_syntax.specs.Models.Separated.{one, more}
-use Rattle.prism_command.specs.Marks.{Begins, BeginsNot}
-use Rattle.prism_command.specs.Parts.{IsEnded, BeginsTarget, BeginsUpdate}
-use Rattle.prism_command.specs.Parts.IsEnded.{ended}
+use Rattle.prism_pieces.specs.Marks.{Begins, BeginsNot}
+use Rattle.prism_pieces.specs.Ended.{IsEnded}
+use Rattle.prism_command.specs.Parts.{BeginsTarget, BeginsUpdate}
+use Rattle.prism_pieces.specs.Ended.IsEnded.{ended}
 use Rattle.prism_command.specs.Followed.{ReadsOneBefore, ReadsNoneBefore}
 use Rattle.prism_command.proofs.JoinLemmas.{Joined, Joins}
 use Rattle.prism_command.proofs.UpdateLemmas.{assigns_begin}

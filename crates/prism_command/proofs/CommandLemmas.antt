@@ -8,10 +8,12 @@ use Rattle.prism_syntax.specs.declared.commands.Branch.{Branch}
 use Rattle.prism_syntax.specs.declared.commands.Command.{Command}
 use Rattle.prism_syntax.specs.Models.{IsAction, IsCommand}
 use Rattle.prism_syntax.specs.Models.IsCommand.{command}
-use Rattle.prism_command.specs.Parts.{IsEnded, AreEnded, IsHead}
+use Rattle.prism_pieces.specs.Ended.{IsEnded}
+use Rattle.prism_command.specs.Parts.{AreEnded, IsHead}
+use Rattle.prism_pieces.specs.Ended as ends
 use Rattle.prism_command.specs.Parts as parts
 use Rattle.prism_command.specs.Parts.IsHead.{head}
-use Rattle.prism_command.specs.Answers.{ReadsOne, ReadsNoOne}
+use Rattle.prism_pieces.specs.Answers.{ReadsOne, ReadsNoOne}
 use Rattle.prism_command.proofs.JoinLemmas.{Joined, Joins, reads_joined, reads_no_first, reads_no_second}
 
 -- a guard with the arrow, and branches with the semicolon
@@ -46,7 +48,7 @@ parts_meet a g b =
 -- a head, a guard and branches are a command
 join_body : (a : List Kind) (n : Option (List ℕ)) (c d : List Kind) (x : Expr) (branches : List Branch) → IsAction a n → IsEnded k.Arrow c x → AreEnded d branches
     → IsCommand ((k.OpenBracket ∷ (a ++ (k.CloseBracket ∷ []))) ++ (c ++ d)) (acting n (x, branches))
-join_body a n _ _ x branches action (parts.IsEnded.ended {a = g} guard) (parts.AreEnded.ended {b = b} texts) =
+join_body a n _ _ x branches action (ends.IsEnded.ended {a = g} guard) (parts.AreEnded.ended {b = b} texts) =
     subst (λ ks. IsCommand ks (acting n (x, branches))) (parts_meet a g b) (command action guard texts)
 
 -- a head and what follows it are a command
@@ -62,7 +64,7 @@ split_command _ _ (command {a = a} {g = g} {b = b} {n = n} {x = x} {bs = bs} act
   y = (x, bs);
   cut = parts_meet a g b;
   first = head action;
-  second = body (parts.IsEnded.ended guard) (parts.AreEnded.ended texts);
+  second = body (ends.IsEnded.ended guard) (parts.AreEnded.ended texts);
   is = refl;
 }
 

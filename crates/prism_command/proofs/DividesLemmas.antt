@@ -1,7 +1,7 @@
 -- What may follow an assignment and a branch with its weight, and what may follow the last of them.
 use Rattle.std.proofs.Common.{refl}
 use Rattle.prism_syntax.specs.declared.tokens.Kind.TheVariants as k
-use Rattle.prism_command.specs.Marks.{Begins, BeginsNot}
+use Rattle.prism_pieces.specs.Marks.{Begins, BeginsNot}
 use Rattle.prism_command.proofs.FollowedLemmas.{Anything}
 use Rattle.prism_command.proofs.SeparatedLemmas.{Divides}
 

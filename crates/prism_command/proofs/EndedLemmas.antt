@@ -6,10 +6,10 @@ use Rattle.prism_syntax.specs.declared.tokens.Token.{Token}
 use Rattle.prism_syntax.specs.declared.commands.Branch.{Branch}
 use Rattle.prism_syntax.specs.Tokens.{kinds}
 use Rattle.prism_syntax.specs.Models.{AreBranches}
-use Rattle.prism_command.specs.Marks.{Passes, Begins, BeginsNot}
+use Rattle.prism_pieces.specs.Marks.{Passes, Begins, BeginsNot}
 use Rattle.prism_command.specs.Parts.{AreEnded}
 use Rattle.prism_command.specs.Parts.AreEnded.{ended}
-use Rattle.prism_command.specs.Answers.{ReadsOne, ReadsNoOne}
+use Rattle.prism_pieces.specs.Answers.{ReadsOne, ReadsNoOne}
 use Rattle.prism_command.specs.Followed.{ReadsOneBefore, ReadsNoneBefore}
 
 -- branches that a semicolon follows

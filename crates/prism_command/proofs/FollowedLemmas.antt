@@ -2,7 +2,7 @@
 use Rattle.std.proofs.Common.{ℕ, List}
 use Rattle.prism_syntax.specs.declared.tokens.Kind.{Kind}
 use Rattle.prism_syntax.specs.declared.tokens.Token.{Token}
-use Rattle.prism_command.specs.Answers.{IsOnly, ReadsOne, ReadsNoOne}
+use Rattle.prism_pieces.specs.Answers.{IsOnly, ReadsOne, ReadsNoOne}
 use Rattle.prism_command.specs.Followed.{IsOnlyBefore, ReadsOneBefore, ReadsNoneBefore}
 
 -- any tokens at all

@@ -5,10 +5,10 @@ use Rattle.prism_syntax.specs.declared.tokens.Kind.TheVariants as k
 use Rattle.prism_syntax.specs.declared.tokens.Token.{Token}
 use Rattle.prism_syntax.specs.Tokens.{kinds}
 use Rattle.prism_syntax.specs.Models.IsAction.{unlabelled, labelled}
-use Rattle.prism_command.specs.Marks.{Passes}
+use Rattle.prism_pieces.specs.Marks.{Passes}
 use Rattle.prism_command.specs.Parts.{IsHead}
 use Rattle.prism_command.specs.Parts.IsHead.{head}
-use Rattle.prism_command.specs.Answers.{ReadsOne}
+use Rattle.prism_pieces.specs.Answers.{ReadsOne}
 
 -- brackets without a name are the only head
 only_empty : (rest other after : List Kind) (action : Option (List ℕ)) → k.OpenBracket ∷ (k.CloseBracket ∷ rest) ≡ other ++ after → IsHead other action → (after ≡ rest) × (action ≡ None)

@@ -2,7 +2,7 @@
 use Rattle.std.proofs.Common.{◌≡◌, ℕ, ◌≤◌, List, ◌++◌, length, sym, ◌∙◌, ap, append_assoc, arith, length-append}
 use Rattle.prism_syntax.specs.declared.tokens.Kind.{Kind}
 use Rattle.prism_syntax.specs.declared.tokens.Token.{Token}
-use Rattle.prism_command.specs.Answers.{IsOnly, HasNone, ReadsOne, ReadsNoOne}
+use Rattle.prism_pieces.specs.Answers.{IsOnly, HasNone, ReadsOne, ReadsNoOne}
 use Rattle.prism_command.specs.Followed.{IsOnlyBefore, HasNoneBefore, ReadsOneBefore, ReadsNoneBefore}
 use Rattle.prism_command.proofs.FollowedLemmas.{Anything, one_anyhow, anyhow_one}
 

@@ -1,7 +1,5 @@
 mod CommandLemmas
-mod AnswerLemmas
 mod DividesLemmas
-mod EndLemmas
 mod EndedLemmas
 mod FollowedLemmas
 mod ForeignLemmas

@@ -6,7 +6,7 @@ use Rattle.prism_syntax.specs.declared.tokens.Kind.{Kind}
 use Rattle.prism_syntax.specs.declared.tokens.Kind.TheVariants as k
 use Rattle.prism_syntax.specs.declared.tokens.Token.{Token}
 use Rattle.prism_syntax.specs.Tokens.{kinds}
-use Rattle.prism_command.specs.Marks.{Passes, BeginsNot}
+use Rattle.prism_pieces.specs.Marks.{Passes, BeginsNot}
 use Rattle.prism_command.specs.Parts.{BeginsTarget, BeginsUpdate}
 use Rattle.prism_command.specs.Parts.BeginsTarget.{target}
 use Rattle.prism_command.specs.Parts.BeginsUpdate.{nothing, assigns}

@@ -7,11 +7,12 @@ use Rattle.prism_syntax.specs.declared.expressions.Expr.{Expr}
 use Rattle.prism_syntax.specs.Tokens.{kinds}
 use Rattle.prism_syntax.specs.Models.{IsAssign}
 use Rattle.prism_syntax.specs.Models.IsAssign.{assign}
-use Rattle.prism_command.specs.Marks.{Passes}
-use Rattle.prism_command.specs.Parts.{IsEnded, IsTarget}
-use Rattle.prism_command.specs.Parts.IsEnded.{ended}
+use Rattle.prism_pieces.specs.Marks.{Passes}
+use Rattle.prism_pieces.specs.Ended.{IsEnded}
+use Rattle.prism_command.specs.Parts.{IsTarget}
+use Rattle.prism_pieces.specs.Ended.IsEnded.{ended}
 use Rattle.prism_command.specs.Parts.IsTarget.{target}
-use Rattle.prism_command.specs.Answers.{ReadsOne}
+use Rattle.prism_pieces.specs.Answers.{ReadsOne}
 use Rattle.prism_command.proofs.JoinLemmas.{Joined, Joins}
 
 -- a name and its value

@@ -5,7 +5,7 @@ use Rattle.prism_syntax.specs.declared.tokens.Token.{Token}
 use Rattle.prism_syntax.specs.Tokens.{kinds}
 use Rattle.prism_syntax.specs.Models.{Separated}
 use Rattle.prism_syntax.specs.Models.Separated.{one, more}
-use Rattle.prism_command.specs.Marks.{Passes, BeginsNot}
+use Rattle.prism_pieces.specs.Marks.{Passes, BeginsNot}
 use Rattle.prism_command.specs.Followed.{IsOnlyBefore, HasNoneBefore, ReadsOneBefore, ReadsNoneBefore}
 
 -- what may follow one text, and what may follow the last one

@@ -9,7 +9,7 @@ use Rattle.prism_syntax.specs.Models.{IsAssign, IsUpdate, Separated}
 use Rattle.prism_syntax.specs.Models.IsAssign.{assign}
 use Rattle.prism_syntax.specs.Models.IsUpdate.{nothing, assigns}
 use Rattle.prism_syntax.specs.Models.Separated.{one, more}
-use Rattle.prism_command.specs.Marks.{Passes, BeginsNot}
+use Rattle.prism_pieces.specs.Marks.{Passes, BeginsNot}
 use Rattle.prism_command.specs.Followed.{ReadsOneBefore, ReadsNoneBefore}
 
 -- the front of an assignment

@@ -1,4 +1,2 @@
-pub mod Marks
 pub mod Parts
-pub mod Answers
 pub mod Followed

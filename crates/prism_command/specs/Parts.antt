@@ -1,15 +1,9 @@
 -- The parts of a command that are read each on its own.
-use Rattle.std.specs.Prelude.{ℕ, List, [], ◌∷◌, ◌++◌, false, Option}
+use Rattle.std.specs.Prelude.{ℕ, List, [], ◌∷◌, ◌++◌, Option}
 use Rattle.prism_syntax.specs.declared.tokens.Kind.{Kind}
 use Rattle.prism_syntax.specs.declared.tokens.Kind.TheVariants as k
-use Rattle.prism_syntax.specs.declared.expressions.Expr.{Expr}
 use Rattle.prism_syntax.specs.declared.commands.Branch.{Branch}
-use Rattle.prism_syntax.specs.Expressions.{IsExpr}
 use Rattle.prism_syntax.specs.Models.{IsAction, AreBranches}
-
--- an expression and the token that ends it
-pub data IsEnded (end : Kind) : List Kind → Expr → Type 0 where
-  ended : {a : List Kind} {x : Expr} → IsExpr false a x → IsEnded end (a ++ (end ∷ [])) x
 
 -- what an assignment begins with, up to its `=`: the name that is assigned
 pub data IsTarget : List Kind → List ℕ → Type 0 where

@@ -1,14 +1,13 @@
 ghost use Rattle.prism_syntax.specs.declared.tokens.Kind.TheVariants as k;
 ghost use Rattle.prism_syntax.specs.Models.{IsAssign, IsUpdate, Separated};
 ghost use Rattle.prism_expression.specs.Answers.{Gives};
-ghost use Rattle.prism_command.specs.Marks.{BeginsNot};
+ghost use Rattle.prism_pieces.specs.Marks.{BeginsNot};
 ghost use Rattle.prism_command.specs.Parts.{IsTarget};
-ghost use Rattle.prism_command.specs.Answers.{ReadsOne, ReadsNoOne};
+ghost use Rattle.prism_pieces.specs.Answers.{ReadsOne, ReadsNoOne};
 ghost use Rattle.prism_command.specs.Followed.{ReadsOneBefore, ReadsNoneBefore};
 
-use crate::endings::expression;
-use crate::marks::{Mark, after, name, past};
 use prism_expression::Unread;
+use prism_pieces::{Mark, after, expression, name, past};
 use prism_syntax::{Expr, Token};
 use smc_num::Text;
 use sqlite_items::Items;

@@ -3,15 +3,14 @@ ghost use Rattle.prism_syntax.specs.declared.tokens.Kind.TheVariants as k;
 ghost use Rattle.prism_syntax.specs.Tokens.{kinds};
 ghost use Rattle.prism_syntax.specs.Models.{AreBranches, IsWeighted, Separated};
 ghost use Rattle.prism_expression.specs.Answers.{Gives};
-ghost use Rattle.prism_command.specs.Marks.{Begins, BeginsNot};
+ghost use Rattle.prism_pieces.specs.Marks.{Begins, BeginsNot};
 ghost use Rattle.prism_command.specs.Parts.{AreEnded, BeginsTarget, BeginsUpdate};
-ghost use Rattle.prism_command.specs.Answers.{ReadsOne, ReadsNoOne};
+ghost use Rattle.prism_pieces.specs.Answers.{ReadsOne, ReadsNoOne};
 ghost use Rattle.prism_command.specs.Followed.{ReadsOneBefore, ReadsNoneBefore};
 
 use crate::assigns::update;
-use crate::endings::expression;
-use crate::marks::{Mark, after, past, past_name};
 use prism_expression::Unread;
+use prism_pieces::{Mark, after, expression, past, past_name};
 use prism_syntax::{Branch, Token};
 use sqlite_items::Items;
 use std::alloc::Global;

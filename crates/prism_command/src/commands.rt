@@ -1,12 +1,11 @@
 ghost use Rattle.prism_syntax.specs.Models.{IsCommand};
 ghost use Rattle.prism_expression.specs.Answers.{Gives};
 ghost use Rattle.prism_command.specs.Parts.{IsHead};
-ghost use Rattle.prism_command.specs.Answers.{ReadsOne, ReadsNoOne};
+ghost use Rattle.prism_pieces.specs.Answers.{ReadsOne, ReadsNoOne};
 
 use crate::branches::ended_branches;
-use crate::endings::expression;
-use crate::marks::{Mark, after, name, past};
 use prism_expression::Unread;
+use prism_pieces::{Mark, after, expression, name, past};
 use prism_syntax::{Command, Token};
 use smc_num::Text;
 use std::alloc::Global;

@@ -4,8 +4,6 @@
 mod assigns;
 mod branches;
 mod commands;
-mod endings;
-mod marks;
 
 pub use commands::command;
 

@@ -10,7 +10,7 @@ use Rattle.prism_syntax.specs.declared.models.Module.{Module}
 use Rattle.prism_syntax.specs.Tokens.{kinds}
 use Rattle.prism_syntax.specs.Models.{IsConst, IsFormula, IsLabel, IsVariable, IsModule}
 use Rattle.prism_syntax.specs.Models as model
-use Rattle.prism_command.specs.Answers.{ReadsNoOne}
+use Rattle.prism_pieces.specs.Answers.{ReadsNoOne}
 use Rattle.prism_model.specs.declared.items.Item.{Item}
 use Rattle.prism_model.specs.declared.items.Item.TheVariants as item
 use Rattle.prism_model.specs.Pieces.{IsJust, Both, both}

@@ -1,4 +1,3 @@
-mod MarkLemmas
 mod AnswerLemmas
 mod SequenceLemmas
 mod PieceLemmas

@@ -9,8 +9,10 @@ use Rattle.prism_syntax.specs.declared.models.Named.{Named}
 use Rattle.prism_syntax.specs.declared.models.Variable.{Variable}
 use Rattle.prism_syntax.specs.Models.{IsConst, IsFormula, IsLabel, IsVariable, IsPair, IsSort, IsOptional}
 use Rattle.prism_syntax.specs.Models as model
-use Rattle.prism_model.specs.Pieces.{IsJust, IsName, IsQuoted, Both, both, IsEnded, IsOptionalEnded, IsSorted, IsRange, IsFurther}
+use Rattle.prism_model.specs.Pieces.{IsJust, IsName, IsQuoted, Both, both, IsOptionalEnded, IsSorted, IsRange, IsFurther}
 use Rattle.prism_model.specs.Pieces as piece
+use Rattle.prism_pieces.specs.Ended.{IsEnded}
+use Rattle.prism_pieces.specs.Ended as ends
 use Rattle.prism_model.proofs.SequenceLemmas.{Stands}
 
 -- a text, its end and what follows are the text and what begins with the end
@@ -51,7 +53,7 @@ abbrev pub named_of : Unit {0} × (List ℕ × (Unit {0} × Expr)) → Named
 named_of p = record { name = p.1.0; body = p.1.1.1 }
 
 formula_to : (a : List Kind) (p : Unit {0} × (List ℕ × (Unit {0} × Expr))) → FormulaParts a p → IsFormula a (named_of p)
-formula_to _ _ (both lead (both {x = n} name (both equal (piece.ended {a} {x} body)))) =
+formula_to _ _ (both lead (both {x = n} name (both equal (ends.ended {a} {x} body)))) =
     let whole : IsFormula (k.Formula ∷ (k.Name n ∷ (k.Equal ∷ (a ++ (k.Semicolon ∷ []))))) (record { name = n; body = x }) = model.formula body in
     rw (lead, name, equal) whole
 
@@ -60,14 +62,14 @@ formula_back _ _ (model.formula {a} {n} {x} body) =
     let lead : IsJust k.Formula (k.Formula ∷ []) tt = refl in
     let name : IsName (k.Name n ∷ []) n = refl in
     let equal : IsJust k.Equal (k.Equal ∷ []) tt = refl in
-    let rest : IsEnded k.Semicolon (a ++ (k.Semicolon ∷ [])) x = piece.ended body in
+    let rest : IsEnded k.Semicolon (a ++ (k.Semicolon ∷ [])) x = ends.ended body in
     ((tt, (n, (tt, x))), both lead (both name (both equal rest)), refl)
 
 pub formula_stands : (ts : List Kind) → Stands FormulaParts named_of IsFormula ts
 formula_stands ts = record { to = λ a after p cut. formula_to a p; back = λ a after z cut. formula_back a z }
 
 label_to : (a : List Kind) (p : Unit {0} × (List ℕ × (Unit {0} × Expr))) → LabelParts a p → IsLabel a (named_of p)
-label_to _ _ (both lead (both {x = n} name (both equal (piece.ended {a} {x} body)))) =
+label_to _ _ (both lead (both {x = n} name (both equal (ends.ended {a} {x} body)))) =
     let whole : IsLabel (k.Label ∷ (k.Quoted n ∷ (k.Equal ∷ (a ++ (k.Semicolon ∷ []))))) (record { name = n; body = x }) = model.label body in
     rw (lead, name, equal) whole
 
@@ -76,7 +78,7 @@ label_back _ _ (model.label {a} {n} {x} body) =
     let lead : IsJust k.Label (k.Label ∷ []) tt = refl in
     let name : IsQuoted (k.Quoted n ∷ []) n = refl in
     let equal : IsJust k.Equal (k.Equal ∷ []) tt = refl in
-    let rest : IsEnded k.Semicolon (a ++ (k.Semicolon ∷ [])) x = piece.ended body in
+    let rest : IsEnded k.Semicolon (a ++ (k.Semicolon ∷ [])) x = ends.ended body in
     ((tt, (n, (tt, x))), both lead (both name (both equal rest)), refl)
 
 pub label_stands : (ts : List Kind) → Stands LabelParts named_of IsLabel ts
@@ -93,7 +95,7 @@ abbrev pub no_range : Unit {0} → Option (Expr × Expr)
 no_range nothing = None
 
 range_to : (a : List Kind) (p : Unit {0} × (Expr × Expr)) → RangeParts a p → IsRange a (range_of p)
-range_to _ _ (both lead (both (piece.ended {a} {x} low) (piece.ended {a = b} {x = y} high))) =
+range_to _ _ (both lead (both (ends.ended {a} {x} low) (ends.ended {a = b} {x = y} high))) =
     let whole : IsRange (k.OpenBracket ∷ (a ++ (k.Dots ∷ (b ++ (k.CloseBracket ∷ []))))) (Some (x, y)) = piece.ranged low high in
     rw (lead, regroup a k.Dots (b ++ (k.CloseBracket ∷ []))) whole
 
@@ -101,8 +103,8 @@ range_back : (ts rest : List Kind) (a after : List Kind) (z : Option (Expr × Ex
     → (p : Unit {0} × (Expr × Expr)) × RangeParts a p × (z ≡ range_of p)
 range_back ts rest _ after _ begins cut (piece.ranged {a} {b} {x} {y} low high) =
     let lead : IsJust k.OpenBracket (k.OpenBracket ∷ []) tt = refl in
-    let first : IsEnded k.Dots (a ++ (k.Dots ∷ [])) x = piece.ended low in
-    let second : IsEnded k.CloseBracket (b ++ (k.CloseBracket ∷ [])) y = piece.ended high in
+    let first : IsEnded k.Dots (a ++ (k.Dots ∷ [])) x = ends.ended low in
+    let second : IsEnded k.CloseBracket (b ++ (k.CloseBracket ∷ [])) y = ends.ended high in
     let whole : RangeParts (k.OpenBracket ∷ ((a ++ (k.Dots ∷ [])) ++ (b ++ (k.CloseBracket ∷ [])))) (tt, (x, y)) = both lead (both first second) in
     ((tt, (x, y)), rw (regroup a k.Dots (b ++ (k.CloseBracket ∷ []))) at whole, refl)
 range_back ts rest _ after _ begins cut piece.truth =

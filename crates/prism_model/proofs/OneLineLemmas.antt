@@ -14,8 +14,10 @@ use Rattle.prism_expression.specs.Follow.{goes_on}
 use Rattle.prism_expression.proofs.RankLemmas.{false_true}
 use Rattle.prism_expression.proofs.TwoTextLemmas.{heads, tails, unmoved}
 use Rattle.prism_expression.proofs.CompareLemmas.{compares}
-use Rattle.prism_model.specs.Pieces.{IsEnded, IsOptionalEnded, IsSorted, IsRange}
+use Rattle.prism_model.specs.Pieces.{IsOptionalEnded, IsSorted, IsRange}
 use Rattle.prism_model.specs.Pieces as piece
+use Rattle.prism_pieces.specs.Ended.{IsEnded}
+use Rattle.prism_pieces.specs.Ended as ends
 use Rattle.prism_model.specs.Items.{IsPassed, EndsRewards, ends}
 use Rattle.prism_model.proofs.LineLemmas.{regroup, const_stands, formula_stands, label_stands, range_stands, truth_stands, variable_stands}
 use Rattle.prism_model.proofs.RewardsLemmas.{HasNoEnd, rewards_stands}
@@ -29,7 +31,7 @@ expr_agrees {b} {y} t u r s stop end first second equal =
 
 -- an expression and the token that ends it
 pub ended_agrees : (end : Kind) → goes_on line.Choice end ≡ false → Agrees (IsEnded end)
-ended_agrees end stop _ _ r s _ _ (piece.IsEnded.ended {a} first) (piece.IsEnded.ended {a = b} second) equal =
+ended_agrees end stop _ _ r s _ _ (ends.IsEnded.ended {a} first) (ends.IsEnded.ended {a = b} second) equal =
     let same = expr_agrees end end r s stop stop first second (sym (regroup a end r) ∙ equal ∙ regroup b end s) in
     (tails same.0, same.1)
 
@@ -39,7 +41,7 @@ optional_agrees lead differs _ _ r s _ _ (piece.IsOptionalEnded.ended absent) (p
 optional_agrees lead differs _ _ r s _ _ (piece.IsOptionalEnded.ended absent) (piece.IsOptionalEnded.ended (present second)) equal = absurd (differs (sym (heads equal)))
 optional_agrees lead differs _ _ r s _ _ (piece.IsOptionalEnded.ended (present first)) (piece.IsOptionalEnded.ended absent) equal = absurd (differs (heads equal))
 optional_agrees lead differs _ _ r s _ _ (piece.IsOptionalEnded.ended (present {a} {x} first)) (piece.IsOptionalEnded.ended (present {a = b} {x = y} second)) equal =
-    let same = ended_agrees k.Semicolon refl (a ++ (k.Semicolon ∷ [])) (b ++ (k.Semicolon ∷ [])) r s x y (piece.IsEnded.ended first) (piece.IsEnded.ended second) (tails equal) in
+    let same = ended_agrees k.Semicolon refl (a ++ (k.Semicolon ∷ [])) (b ++ (k.Semicolon ∷ [])) r s x y (ends.IsEnded.ended first) (ends.IsEnded.ended second) (tails equal) in
     (same.0, ap Some same.1)
 
 -- the sort that tokens begin with, and the tokens after it

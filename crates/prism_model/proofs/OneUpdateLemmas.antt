@@ -14,8 +14,8 @@ use Rattle.prism_syntax.specs.Models as model
 use Rattle.prism_expression.proofs.RankLemmas.{sign_no_open}
 use Rattle.prism_expression.proofs.TwoTextLemmas.{heads, tails}
 use Rattle.prism_expression.proofs.TwoPrimaryLemmas.{open_no_atom, open_no_function}
-use Rattle.prism_command.specs.Marks.{Begins, BeginsNot}
-use Rattle.prism_model.specs.Pieces as piece
+use Rattle.prism_pieces.specs.Marks.{Begins, BeginsNot}
+use Rattle.prism_pieces.specs.Ended as ends
 use Rattle.prism_model.proofs.LineLemmas.{regroup}
 use Rattle.prism_model.proofs.AgreeLemmas.{Agrees, AgreesBefore, Divides, separated_agrees}
 use Rattle.prism_model.proofs.OneLineLemmas.{expr_agrees, ended_agrees}
@@ -54,7 +54,7 @@ no_target n r s (call {t} {f} found fits first parts) equal = open_no_function t
 -- an assignment
 assign_agrees : Agrees IsAssign
 assign_agrees _ _ r s _ _ (model.assign {a} {n} {x} first) (model.assign {a = b} {n = m} {x = y} second) equal =
-    let same = ended_agrees k.Close refl (a ++ (k.Close ∷ [])) (b ++ (k.Close ∷ [])) r s x y (piece.IsEnded.ended first) (piece.IsEnded.ended second) (tails (tails (tails (tails equal)))) in
+    let same = ended_agrees k.Close refl (a ++ (k.Close ∷ [])) (b ++ (k.Close ∷ [])) r s x y (ends.IsEnded.ended first) (ends.IsEnded.ended second) (tails (tails (tails (tails equal)))) in
     let name : k.Name n ≡ k.Name m = heads (tails equal) in
     (same.0, cc)
 

@@ -1,111 +1,46 @@
 -- What is read of the pieces of a line.
-use Rattle.std.proofs.Common.{◌≡◌, ℕ, ◌-◌, ◌≤◌, List, take, drop, get_or, take_all, [], ◌∷◌, ◌++◌, length, refl, sym, ◌∙◌, ap, arith, append_assoc, Option, Some, None, false}
+use Rattle.std.proofs.Common.{◌≡◌, ℕ, ◌-◌, ◌≤◌, List, take, drop, get_or, take_all, [], ◌∷◌, ◌++◌, length, refl, sym, ◌∙◌, ap, arith, Option, Some, None}
 use Rattle.prism_syntax.specs.declared.tokens.Kind.{Kind}
 use Rattle.prism_syntax.specs.declared.tokens.Kind.TheVariants as k
 use Rattle.prism_syntax.specs.declared.tokens.Token.{Token}
 use Rattle.prism_syntax.specs.declared.expressions.Expr.{Expr}
-use Rattle.prism_syntax.specs.declared.lines.Line.TheVariants as line
 use Rattle.prism_syntax.specs.Tokens.{kinds}
-use Rattle.prism_syntax.specs.Expressions.{IsLongest, BeginsNoText}
 use Rattle.prism_syntax.specs.Models.{absent, present}
-use Rattle.prism_expression.specs.Answers.{Reads, ReadsNone}
-use Rattle.prism_expression.specs.Follow.{goes_on}
-use Rattle.prism_command.specs.Answers.{IsOnly, HasNone, ReadsOne, ReadsNoOne}
-use Rattle.prism_model.specs.Pieces.{IsAfter, BeginsOther, IsJust, IsName, IsQuoted, IsEnded, IsOptionalEnded}
+use Rattle.prism_pieces.specs.Answers.{IsOnly, HasNone, ReadsOne, ReadsNoOne}
+use Rattle.prism_pieces.specs.Marks.{Passes, PassesName, BeginsNot, BeginsNoName}
+use Rattle.prism_pieces.specs.Ended.{IsEnded}
+use Rattle.prism_pieces.specs.Ended as ends
+use Rattle.prism_model.specs.Pieces.{IsJust, IsName, IsQuoted, IsOptionalEnded}
 use Rattle.prism_model.specs.Pieces as piece
-use Rattle.prism_expression.proofs.CompareLemmas.{closed}
 
--- the kinds of tokens that are cut
-kinds_cut : (front rest : List Token) → kinds (front ++ rest) ≡ kinds front ++ kinds rest
-kinds_cut [] rest = refl
-kinds_cut (t ∷ front) rest = ap (λ l. t.kind ∷ l) (kinds_cut front rest)
+-- the kinds of tokens that begin with one of this kind
+pub begins_after : (lead : Kind) (ts rest : List Token) → Passes lead ts rest → kinds ts ≡ lead ∷ kinds rest
+begins_after lead ts rest is = ap kinds is.cut ∙ ap (λ t. t ∷ kinds rest) is.is
 
--- the first of the tokens, whose kinds begin with this one
-begins_with : (ts : List Token) (kind : Kind) (after : List Kind) → kinds ts ≡ kind ∷ after → (first : Token) × (rest : List Token) × (ts ≡ first ∷ rest) × (first.kind ≡ kind)
-begins_with [] kind after cut = cc
-begins_with (t ∷ ts) kind after cut = (t, ts, refl, cc)
-
--- the kinds of tokens that begin with one of this kind, or with none of it
-pub begins_after : (lead : Kind) (ts rest : List Token) → IsAfter lead ts rest → kinds ts ≡ lead ∷ kinds rest
-begins_after lead ts rest is = ap kinds is.cut ∙ ap (λ t. t ∷ kinds rest) is.same
-
-pub begins_other : (kind : Kind) (ts : List Token) → BeginsOther kind ts → (rest : List Kind) → kinds ts ≡ kind ∷ rest → ⊥
-begins_other kind ts other rest cut = let b = begins_with ts kind rest cut in other b.0 b.1 b.2 b.3
-
-pub just_read : (kind : Kind) (ts rest : List Token) → IsAfter kind ts rest → ReadsOne (IsJust kind) ts tt rest
+-- a token alone
+pub just_read : (kind : Kind) (ts rest : List Token) → Passes kind ts rest → ReadsOne (IsJust kind) ts tt rest
 just_read kind ts rest is = record {
   only = record {
     front = kind ∷ [];
-    cut = ap kinds is.cut ∙ ap (λ t. t ∷ kinds rest) is.same;
+    cut = ap kinds is.cut ∙ ap (λ t. t ∷ kinds rest) is.is;
     text = refl;
     only = λ other after any cut text.
-        let same : kind ∷ kinds rest ≡ kind ∷ after = sym (ap kinds is.cut ∙ ap (λ t. t ∷ kinds rest) is.same) ∙ cut ∙ ap (λ l. l ++ after) text in
+        let same : kind ∷ kinds rest ≡ kind ∷ after = sym (ap kinds is.cut ∙ ap (λ t. t ∷ kinds rest) is.is) ∙ cut ∙ ap (λ l. l ++ after) text in
         (cc, refl);
   };
   front = is.first ∷ [];
   cut = is.cut;
 }
 
-pub no_just_read : (kind : Kind) (ts : List Token) → BeginsOther kind ts → ReadsNoOne (IsJust kind) ts (length ts)
-no_just_read kind ts other = record {
-  none = λ front after any cut text.
-      let b = begins_with ts kind after (cut ∙ ap (λ l. l ++ after) text) in
-      other b.0 b.1 b.2 b.3;
-  within = omega arith;
-}
-
-ended_is : (end : Kind) (ts rest after : List Kind) (x : Expr) (other more : List Kind) (any : Expr)
-    → goes_on line.Choice end ≡ false → IsLongest false line.Choice ts x rest → rest ≡ end ∷ after → ts ≡ other ++ more → IsEnded end other any → (more ≡ after) × (any ≡ x)
-ended_is end ts rest after x other more any ends longest next cut (piece.ended {a} text) =
-    let same = closed longest (cut ∙ append_assoc a (end ∷ []) more) text ends in
-    let tails : end ∷ after ≡ end ∷ more = sym next ∙ same.0 in
-    (cc, sym same.1)
-
-unended_is : (end : Kind) (ts : List Kind) (rest : List Token) (x : Expr) (other more : List Kind) (any : Expr)
-    → goes_on line.Choice end ≡ false → IsLongest false line.Choice ts x (kinds rest) → BeginsOther end rest → ts ≡ other ++ more → IsEnded end other any → ⊥
-unended_is end ts rest x other more any ends longest differs cut (piece.ended {a} text) =
-    let same = closed longest (cut ∙ append_assoc a (end ∷ []) more) text ends in
-    let b = begins_with rest end more same.0 in
-    differs b.0 b.1 b.2 b.3
-
-no_ended_is : (end : Kind) (ts : List Kind) (other more : List Kind) (any : Expr)
-    → BeginsNoText false line.Choice ts → ts ≡ other ++ more → IsEnded end other any → ⊥
-no_ended_is end ts other more any none cut (piece.ended {a} text) = none a ((end ∷ []) ++ more) any (cut ∙ append_assoc a (end ∷ []) more) text
-
--- an expression is read, and the token after it ends it
-pub ended_read : (end : Kind) (ts rest after : List Token) (x : Expr) (wrong : ℕ)
-    → goes_on line.Choice end ≡ false → Reads false line.Choice ts x rest wrong → IsAfter end rest after → ReadsOne (IsEnded end) ts x after
-ended_read end ts rest after x wrong ends read is =
-    let next : kinds rest ≡ end ∷ kinds after = ap kinds is.cut ∙ ap (λ t. t ∷ kinds after) is.same in
-    record {
-      only = record {
-        front = read.longest.front ++ (end ∷ []);
-        cut = read.longest.cut ∙ ap (λ l. read.longest.front ++ l) next ∙ sym (append_assoc read.longest.front (end ∷ []) (kinds after));
-        text = piece.ended read.longest.text;
-        only = λ other more any cut text. ended_is end (kinds ts) (kinds rest) (kinds after) x other more any ends read.longest next cut text;
-      };
-      front = read.front ++ (is.first ∷ []);
-      cut = read.cut ∙ ap (λ l. read.front ++ l) is.cut ∙ sym (append_assoc read.front (is.first ∷ []) after);
-    }
-
--- no token ends the longest expression
-pub unended_read : (end : Kind) (ts rest : List Token) (x : Expr) (wrong : ℕ)
-    → goes_on line.Choice end ≡ false → Reads false line.Choice ts x rest wrong → BeginsOther end rest → ReadsNoOne (IsEnded end) ts wrong
-unended_read end ts rest x wrong ends read other = record {
-  none = λ front after any cut text. unended_is end (kinds ts) rest x front after any ends read.longest other cut text;
-  within = read.within;
-}
-
--- no expression begins the tokens
-pub no_ended_read : (end : Kind) (ts : List Token) (left : ℕ) → ReadsNone false line.Choice ts left → ReadsNoOne (IsEnded end) ts left
-no_ended_read end ts left none = record {
-  none = λ front after any cut text. no_ended_is end (kinds ts) front after any none.none cut text;
-  within = none.within;
+pub no_just_read : (kind : Kind) (ts : List Token) (left : ℕ) → BeginsNot kind (kinds ts) → left ≤ length ts → ReadsNoOne (IsJust kind) ts left
+no_just_read kind ts left other within = record {
+  none = λ front after any cut text. other after (cut ∙ ap (λ l. l ++ after) text);
+  within = within;
 }
 
 -- the expression after the token that leads it
 led_text : (lead : Kind) (front : List Kind) (x : Expr) → IsEnded k.Semicolon front x → IsOptionalEnded lead (lead ∷ front) (Some x)
-led_text lead front x (piece.ended text) = piece.ended (present text)
+led_text lead front x (ends.ended text) = piece.ended (present text)
 
 led_is : (lead : Kind) (ts rest after other more : List Kind) (x : Expr) (any : Option Expr)
     → (lead ≡ k.Semicolon → ⊥) → ts ≡ lead ∷ rest → IsOnly (IsEnded k.Semicolon) rest x after → ts ≡ other ++ more → IsOptionalEnded lead other any
@@ -115,7 +50,7 @@ led_is lead ts rest after other more x any differs begins only cut (piece.ended 
     absurd (differs cc)
 led_is lead ts rest after other more x any differs begins only cut (piece.ended (present {a} {x = y} text)) =
     let heads : lead ∷ rest ≡ lead ∷ ((a ++ (k.Semicolon ∷ [])) ++ more) = sym begins ∙ cut in
-    let whole : IsEnded k.Semicolon (a ++ (k.Semicolon ∷ [])) y = piece.ended text in
+    let whole : IsEnded k.Semicolon (a ++ (k.Semicolon ∷ [])) y = ends.ended text in
     let same = only.only (a ++ (k.Semicolon ∷ [])) more y (cc) whole in
     (same.0, ap Some same.1)
 
@@ -126,11 +61,11 @@ no_led_is lead ts rest other more any differs begins none cut (piece.ended absen
     differs cc
 no_led_is lead ts rest other more any differs begins none cut (piece.ended (present {a} {x = y} text)) =
     let heads : lead ∷ rest ≡ lead ∷ ((a ++ (k.Semicolon ∷ [])) ++ more) = sym begins ∙ cut in
-    let whole : IsEnded k.Semicolon (a ++ (k.Semicolon ∷ [])) y = piece.ended text in
+    let whole : IsEnded k.Semicolon (a ++ (k.Semicolon ∷ [])) y = ends.ended text in
     none (a ++ (k.Semicolon ∷ [])) more y (cc) whole
 
 pub led_read : (lead : Kind) (ts rest after : List Token) (x : Expr)
-    → (lead ≡ k.Semicolon → ⊥) → IsAfter lead ts rest → ReadsOne (IsEnded k.Semicolon) rest x after → ReadsOne (IsOptionalEnded lead) ts (Some x) after
+    → (lead ≡ k.Semicolon → ⊥) → Passes lead ts rest → ReadsOne (IsEnded k.Semicolon) rest x after → ReadsOne (IsOptionalEnded lead) ts (Some x) after
 led_read lead ts rest after x differs is read = record {
   only = record {
     front = lead ∷ read.only.front;
@@ -143,7 +78,7 @@ led_read lead ts rest after x differs is read = record {
 }
 
 pub no_led_read : (lead : Kind) (ts rest : List Token) (left : ℕ)
-    → (lead ≡ k.Semicolon → ⊥) → IsAfter lead ts rest → ReadsNoOne (IsEnded k.Semicolon) rest left → ReadsNoOne (IsOptionalEnded lead) ts left
+    → (lead ≡ k.Semicolon → ⊥) → Passes lead ts rest → ReadsNoOne (IsEnded k.Semicolon) rest left → ReadsNoOne (IsOptionalEnded lead) ts left
 no_led_read lead ts rest left differs is none = record {
   none = λ other more any cut text. no_led_is lead (kinds ts) (kinds rest) other more any differs (begins_after lead ts rest is) none.none cut text;
   within = omega (arith, ap length is.cut, none.within);
@@ -151,22 +86,20 @@ no_led_read lead ts rest left differs is none = record {
 
 -- only the semicolon
 unled_is : (lead : Kind) (ts : List Token) (after other more : List Kind) (any : Option Expr)
-    → BeginsOther lead ts → IsOnly (IsJust k.Semicolon) (kinds ts) tt after → kinds ts ≡ other ++ more → IsOptionalEnded lead other any
+    → BeginsNot lead (kinds ts) → IsOnly (IsJust k.Semicolon) (kinds ts) tt after → kinds ts ≡ other ++ more → IsOptionalEnded lead other any
     → (more ≡ after) × (any ≡ None)
 unled_is lead ts after other more any differs only cut (piece.ended absent) = ((only.only (k.Semicolon ∷ []) more tt cut refl).0, refl)
 unled_is lead ts after other more any differs only cut (piece.ended (present {a} text)) =
-    let b = begins_with ts lead ((a ++ (k.Semicolon ∷ [])) ++ more) cut in
-    absurd (differs b.0 b.1 b.2 b.3)
+    absurd (differs ((a ++ (k.Semicolon ∷ [])) ++ more) cut)
 
 no_unled_is : (lead : Kind) (ts : List Token) (other more : List Kind) (any : Option Expr)
-    → BeginsOther lead ts → HasNone (IsJust k.Semicolon) (kinds ts) → kinds ts ≡ other ++ more → IsOptionalEnded lead other any → ⊥
+    → BeginsNot lead (kinds ts) → HasNone (IsJust k.Semicolon) (kinds ts) → kinds ts ≡ other ++ more → IsOptionalEnded lead other any → ⊥
 no_unled_is lead ts other more any differs none cut (piece.ended absent) = none (k.Semicolon ∷ []) more tt cut refl
 no_unled_is lead ts other more any differs none cut (piece.ended (present {a} text)) =
-    let b = begins_with ts lead ((a ++ (k.Semicolon ∷ [])) ++ more) cut in
-    differs b.0 b.1 b.2 b.3
+    differs ((a ++ (k.Semicolon ∷ [])) ++ more) cut
 
 pub unled_read : (lead : Kind) (ts after : List Token)
-    → BeginsOther lead ts → ReadsOne (IsJust k.Semicolon) ts tt after → ReadsOne (IsOptionalEnded lead) ts None after
+    → BeginsNot lead (kinds ts) → ReadsOne (IsJust k.Semicolon) ts tt after → ReadsOne (IsOptionalEnded lead) ts None after
 unled_read lead ts after other read = record {
   only = record {
     front = k.Semicolon ∷ [];
@@ -179,7 +112,7 @@ unled_read lead ts after other read = record {
 }
 
 pub no_unled_read : (lead : Kind) (ts : List Token) (left : ℕ)
-    → BeginsOther lead ts → ReadsNoOne (IsJust k.Semicolon) ts left → ReadsNoOne (IsOptionalEnded lead) ts left
+    → BeginsNot lead (kinds ts) → ReadsNoOne (IsJust k.Semicolon) ts left → ReadsNoOne (IsOptionalEnded lead) ts left
 no_unled_read lead ts left other none = record {
   none = λ other_front more any cut text. no_unled_is lead ts other_front more any other none.none cut text;
   within = none.within;
@@ -198,21 +131,27 @@ starts_with ts first kind some is same =
     ap kinds (first_of_some ts first some is) ∙ ap (λ t. t ∷ kinds (take (length ts - 1) (drop 1 ts))) same
 
 -- a name or a quoted name
-pub name_read : (ts rest : List Token) (first : Token) (text : List ℕ) → ts ≡ first ∷ rest → first.kind ≡ k.Name text → ReadsOne IsName ts text rest
-name_read ts rest first text cut same =
-    let begins : kinds ts ≡ k.Name text ∷ kinds rest = ap kinds cut ∙ ap (λ t. t ∷ kinds rest) same in
+pub name_read : (ts rest : List Token) (text : List ℕ) → PassesName text ts rest → ReadsOne IsName ts text rest
+name_read ts rest text is =
+    let begins : kinds ts ≡ k.Name text ∷ kinds rest = begins_after (k.Name text) ts rest is in
     record {
       only = record {
         front = k.Name text ∷ [];
         cut = begins;
         text = refl;
-        only = λ other more any where_ is.
-            let heads : k.Name text ∷ kinds rest ≡ k.Name any ∷ more = sym begins ∙ where_ ∙ ap (λ l. l ++ more) is in
+        only = λ other more any where_ text_is.
+            let heads : k.Name text ∷ kinds rest ≡ k.Name any ∷ more = sym begins ∙ where_ ∙ ap (λ l. l ++ more) text_is in
             (cc, cc);
       };
-      front = first ∷ [];
-      cut = cut;
+      front = is.first ∷ [];
+      cut = is.cut;
     }
+
+pub no_name_read : (ts : List Token) (left : ℕ) → BeginsNoName (kinds ts) → left ≤ length ts → ReadsNoOne IsName ts left
+no_name_read ts left other within = record {
+  none = λ front after any cut text. other any after (cut ∙ ap (λ l. l ++ after) text);
+  within = within;
+}
 
 pub quoted_read : (ts rest : List Token) (first : Token) (text : List ℕ) → ts ≡ first ∷ rest → first.kind ≡ k.Quoted text → ReadsOne IsQuoted ts text rest
 quoted_read ts rest first text cut same =

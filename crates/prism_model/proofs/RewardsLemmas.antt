@@ -8,7 +8,7 @@ use Rattle.prism_syntax.specs.declared.tokens.Token.{Token}
 use Rattle.prism_syntax.specs.Tokens.{kinds}
 use Rattle.prism_syntax.specs.Models.{IsRewards}
 use Rattle.prism_syntax.specs.Models as model
-use Rattle.prism_command.specs.Answers.{ReadsOne, ReadsNoOne}
+use Rattle.prism_pieces.specs.Answers.{ReadsOne, ReadsNoOne}
 use Rattle.prism_model.specs.Pieces.{IsJust, Both, both}
 use Rattle.prism_model.specs.Items.{IsPassed, EndsRewards, ends}
 use Rattle.prism_model.proofs.SequenceLemmas.{Stands}

@@ -5,7 +5,7 @@ use Rattle.prism_syntax.specs.declared.tokens.Token.{Token}
 use Rattle.prism_syntax.specs.Tokens.{kinds}
 use Rattle.prism_syntax.specs.Models.{Each}
 use Rattle.prism_syntax.specs.Models as model
-use Rattle.prism_command.specs.Answers.{IsOnly, HasNone, ReadsOne, ReadsNoOne}
+use Rattle.prism_pieces.specs.Answers.{IsOnly, HasNone, ReadsOne, ReadsNoOne}
 use Rattle.prism_model.specs.Runs.{ReadsRun, ReadsNoRun}
 use Rattle.prism_model.proofs.SequenceLemmas.{cut_twice, cut_first}
 

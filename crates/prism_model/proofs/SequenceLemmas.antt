@@ -3,7 +3,7 @@ use Rattle.std.proofs.Common.{◌≡◌, ℕ, List, ◌++◌, length, sym, ◌�
 use Rattle.prism_syntax.specs.declared.tokens.Kind.{Kind}
 use Rattle.prism_syntax.specs.declared.tokens.Token.{Token}
 use Rattle.prism_syntax.specs.Tokens.{kinds}
-use Rattle.prism_command.specs.Answers.{IsOnly, HasNone, ReadsOne, ReadsNoOne}
+use Rattle.prism_pieces.specs.Answers.{IsOnly, HasNone, ReadsOne, ReadsNoOne}
 use Rattle.prism_model.specs.Pieces.{Both, both}
 
 -- a list cut in two, the rest of which is cut in two

@@ -8,7 +8,7 @@ use Rattle.prism_syntax.specs.declared.models.SortWord.TheVariants as sort
 use Rattle.prism_syntax.specs.Tokens.{kinds}
 use Rattle.prism_syntax.specs.Models.{IsSort}
 use Rattle.prism_syntax.specs.Models as model
-use Rattle.prism_command.specs.Answers.{IsOnly, HasNone, ReadsOne, ReadsNoOne}
+use Rattle.prism_pieces.specs.Answers.{IsOnly, HasNone, ReadsOne, ReadsNoOne}
 use Rattle.prism_model.specs.Pieces.{IsName, IsSorted, IsSortBefore}
 use Rattle.prism_model.specs.Pieces as piece
 use Rattle.prism_model.proofs.SequenceLemmas.{cut_twice}

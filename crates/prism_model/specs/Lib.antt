@@ -1,4 +1,3 @@
-pub mod Marks
 pub mod Pieces
 pub mod Runs
 pub mod Items

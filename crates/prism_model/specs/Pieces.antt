@@ -11,16 +11,6 @@ use Rattle.prism_syntax.specs.Expressions.{IsExpr}
 use Rattle.prism_syntax.specs.Tokens.{kinds}
 use Rattle.prism_syntax.specs.Models.{Each, Separated, IsOptional, IsSort, IsPair, IsCommand, IsVariable}
 
--- the tokens begin with one of this kind, and the rest follows it
-pub record IsAfter (kind : Kind) (tokens rest : List Token) : Type 0 where
-  pub first : Token
-  pub cut : tokens ≡ first ∷ rest
-  pub same : first.kind ≡ kind
-
--- no token of this kind begins the tokens
-abbrev pub BeginsOther : Kind → List Token → Type 0
-BeginsOther kind tokens = (first : Token) (rest : List Token) → tokens ≡ first ∷ rest → first.kind ≡ kind → ⊥
-
 -- one token of this kind, which stands for nothing
 abbrev pub IsJust : Kind → List Kind → Unit {0} → Type 0
 IsJust kind tokens nothing = tokens ≡ kind ∷ []
@@ -36,10 +26,6 @@ IsQuoted tokens text = tokens ≡ k.Quoted text ∷ []
 -- a text of one line and then one of another
 pub data Both {X Y : Type 0} (IsFirst : List Kind → X → Type 0) (IsSecond : List Kind → Y → Type 0) : List Kind → X × Y → Type 0 where
   both : {a b : List Kind} {x : X} {y : Y} → IsFirst a x → IsSecond b y → Both IsFirst IsSecond (a ++ b) (x, y)
-
--- an expression and the token that ends it
-pub data IsEnded (end : Kind) : List Kind → Expr → Type 0 where
-  ended : {a : List Kind} {x : Expr} → IsExpr false a x → IsEnded end (a ++ (end ∷ [])) x
 
 -- nothing, or an expression after this token, and then a semicolon
 pub data IsOptionalEnded (lead : Kind) : List Kind → Option Expr → Type 0 where

@@ -1,12 +1,12 @@
 ghost use Rattle.std.specs.Prelude.{◌≡◌};
 ghost use Rattle.prism_syntax.specs.Models.{IsConst};
 ghost use Rattle.prism_expression.specs.Answers.{Gives};
-ghost use Rattle.prism_command.specs.Answers.{ReadsOne, ReadsNoOne};
+ghost use Rattle.prism_pieces.specs.Answers.{ReadsOne, ReadsNoOne};
 ghost use Rattle.prism_model.specs.Pieces.{IsSortBefore};
 
-use crate::marks::Mark;
 use crate::pieces::{expect, name, optional};
 use prism_expression::Unread;
+use prism_pieces::Mark;
 use prism_syntax::{ConstText, Kind, SortWord, Token};
 use std::alloc::Global;
 

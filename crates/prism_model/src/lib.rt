@@ -4,7 +4,6 @@
 mod consts;
 mod items;
 mod laws;
-mod marks;
 mod modules;
 mod named;
 mod pairs;

@@ -2,16 +2,16 @@ ghost use Rattle.std.specs.Prelude.{◌≡◌};
 ghost use Rattle.prism_syntax.specs.Tokens.{kinds};
 ghost use Rattle.prism_syntax.specs.Models.{IsCommand, IsModule};
 ghost use Rattle.prism_expression.specs.Answers.{Gives};
-ghost use Rattle.prism_command.specs.Answers.{ReadsOne, ReadsNoOne};
+ghost use Rattle.prism_pieces.specs.Answers.{ReadsOne, ReadsNoOne};
 ghost use Rattle.prism_model.specs.Pieces.{IsBody, IsRenaming};
 ghost use Rattle.prism_model.specs.Runs.{ReadsRun, ReadsNoRun, begins_bracket};
 
-use crate::marks::Mark;
 use crate::pairs::pairs;
-use crate::pieces::{after, expect, name};
+use crate::pieces::{expect, name};
 use crate::variables::variables;
 use prism_command::command;
 use prism_expression::Unread;
+use prism_pieces::{Mark, past};
 use prism_syntax::{Command, Kind, Module, Token, Variable};
 use smc_num::Text;
 use sqlite_items::Items;
@@ -26,7 +26,7 @@ pub fn module<'a>(alloc: Global, tokens: &'a [Token]) -> Result<(Module, &'a [To
 {
     let rest = expect(tokens, Mark::Module)?;
     let (name, rest) = name(alloc, rest)?;
-    match after(rest, Mark::Equal) {
+    match past(rest, Mark::Equal) {
         Some(rest) => {
             let ((source, pairs), rest) = renaming(alloc, rest)?;
             Ok((

@@ -1,11 +1,11 @@
 ghost use Rattle.std.specs.Prelude.{◌≡◌};
 ghost use Rattle.prism_syntax.specs.Models.{IsFormula, IsLabel};
 ghost use Rattle.prism_expression.specs.Answers.{Gives};
-ghost use Rattle.prism_command.specs.Answers.{ReadsOne, ReadsNoOne};
+ghost use Rattle.prism_pieces.specs.Answers.{ReadsOne, ReadsNoOne};
 
-use crate::marks::Mark;
-use crate::pieces::{expect, expression, name, quoted};
+use crate::pieces::{expect, name, quoted};
 use prism_expression::Unread;
+use prism_pieces::{Mark, expression};
 use prism_syntax::{Named, Token};
 use std::alloc::Global;
 

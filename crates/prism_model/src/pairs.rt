@@ -2,13 +2,13 @@ ghost use Rattle.std.specs.Prelude.{◌≡◌};
 ghost use Rattle.prism_syntax.specs.Tokens.{kinds};
 ghost use Rattle.prism_syntax.specs.Models.{IsPair};
 ghost use Rattle.prism_expression.specs.Answers.{Gives};
-ghost use Rattle.prism_command.specs.Answers.{ReadsOne, ReadsNoOne};
+ghost use Rattle.prism_pieces.specs.Answers.{ReadsOne, ReadsNoOne};
 ghost use Rattle.prism_model.specs.Pieces.{IsFurther, ArePairs};
 ghost use Rattle.prism_model.specs.Runs.{ReadsRun, ReadsNoRun, begins_comma};
 
-use crate::marks::Mark;
 use crate::pieces::{expect, name};
 use prism_expression::Unread;
+use prism_pieces::Mark;
 use prism_syntax::{Kind, Token};
 use smc_num::Text;
 use sqlite_items::Items;

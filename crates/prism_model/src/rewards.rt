@@ -1,11 +1,11 @@
 ghost use Rattle.std.specs.Prelude.{◌≡◌};
 ghost use Rattle.prism_expression.specs.Answers.{Gives};
-ghost use Rattle.prism_command.specs.Answers.{ReadsOne, ReadsNoOne};
+ghost use Rattle.prism_pieces.specs.Answers.{ReadsOne, ReadsNoOne};
 ghost use Rattle.prism_model.specs.Items.{IsPassed, EndsRewards};
 
-use crate::marks::{Mark, is_marked};
 use crate::pieces::expect;
 use prism_expression::Unread;
+use prism_pieces::Mark;
 use prism_syntax::Token;
 
 /// The tokens after the rewards block that begins the tokens.
@@ -30,7 +30,7 @@ fn past_end<'a>(tokens: &'a [Token]) -> Result<&'a [Token], Unread>
     let mut rest = tokens;
     while let [first, after @ ..] = rest {
         rest = after;
-        if is_marked(Mark::EndRewards, &first.kind) {
+        if Mark::EndRewards.is(&first.kind) {
             return Ok(rest);
         }
     }

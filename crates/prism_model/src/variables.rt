@@ -2,13 +2,13 @@ ghost use Rattle.std.specs.Prelude.{◌≡◌};
 ghost use Rattle.prism_syntax.specs.Tokens.{kinds};
 ghost use Rattle.prism_syntax.specs.Models.{IsVariable};
 ghost use Rattle.prism_expression.specs.Answers.{Gives};
-ghost use Rattle.prism_command.specs.Answers.{ReadsOne, ReadsNoOne};
+ghost use Rattle.prism_pieces.specs.Answers.{ReadsOne, ReadsNoOne};
 ghost use Rattle.prism_model.specs.Pieces.{IsRange};
 ghost use Rattle.prism_model.specs.Runs.{ReadsRun, ReadsNoRun, begins_name};
 
-use crate::marks::Mark;
-use crate::pieces::{after, expect, expression, name, optional};
+use crate::pieces::{expect, name, optional};
 use prism_expression::Unread;
+use prism_pieces::{Mark, expression, past};
 use prism_syntax::{Expr, Kind, Token, Variable};
 use sqlite_items::Items;
 use std::alloc::Global;
@@ -67,7 +67,7 @@ fn range<'a>(
         (ReadsNoOne IsRange tokens.now)
         result }
 {
-    match after(tokens, Mark::OpenBracket) {
+    match past(tokens, Mark::OpenBracket) {
         Some(rest) => {
             let (low, rest) = expression(alloc, rest, Mark::Dots)?;
             let (high, rest) = expression(alloc, rest, Mark::CloseBracket)?;

@@ -1,6 +1,6 @@
 use Rattle.prism_command.proofs.JoinLemmas.{reads_joined, reads_no_first, reads_no_second}
 use Rattle.prism_command.proofs.PartLemmas.{assign_joins}
-use Rattle.prism_command.proofs.AnswerLemmas.{refused}
+use Rattle.prism_pieces.proofs.AnswerLemmas.{refused}
 use Rattle.prism_command.proofs.assigns.assign.Goals as goal
 
 pub returns-in_err-name : goal.returns-in_err-name

@@ -1,12 +1,12 @@
 use Rattle.std.proofs.Common.{◌≡◌, ◌∷◌, [], ◌++◌, sym, subst}
 use Rattle.prism_syntax.specs.declared.tokens.Kind.TheVariants as k
 use Rattle.prism_syntax.specs.Models.{IsAssign, Separated}
-use Rattle.prism_command.specs.Marks.{BeginsNot}
+use Rattle.prism_pieces.specs.Marks.{BeginsNot}
 use Rattle.prism_command.specs.Followed.{ReadsOneBefore}
 use Rattle.prism_command.proofs.FollowedLemmas.{one_anyhow, none_anyhow}
 use Rattle.prism_command.proofs.SeparatedLemmas.{HasRead, read_next, read_last, read_refused}
 use Rattle.prism_command.proofs.DividesLemmas.{assigns_divide}
-use Rattle.prism_command.proofs.AnswerLemmas.{refused, held}
+use Rattle.prism_pieces.proofs.AnswerLemmas.{refused, held}
 use Rattle.prism_command.proofs.assigns.assigns.Goals as goal
 
 pub returns-in_err-set : goal.returns-in_err-set

@@ -1,7 +1,7 @@
 use Rattle.std.proofs.Common.{length}
 use Rattle.prism_syntax.specs.declared.tokens.Kind.TheVariants as k
 use Rattle.prism_syntax.specs.Models.{IsAssign}
-use Rattle.prism_command.specs.Marks.{BeginsNot}
+use Rattle.prism_pieces.specs.Marks.{BeginsNot}
 use Rattle.prism_command.proofs.SeparatedLemmas.{HasRead}
 use Rattle.prism_command.proofs.assigns.assigns.Given as goal
 

@@ -1,5 +1,5 @@
 use Rattle.prism_command.proofs.UpdateLemmas.{reads_assigns, reads_no_assigns}
-use Rattle.prism_command.proofs.AnswerLemmas.{told}
+use Rattle.prism_pieces.proofs.AnswerLemmas.{told}
 use Rattle.prism_command.proofs.assigns.update.Goals as goal
 
 pub returns-in-None : goal.returns-in-None

@@ -1,10 +1,10 @@
 use Rattle.std.proofs.Common.{◌≡◌, ◌∷◌, [], ◌++◌, sym, subst, ap, ◌∙◌}
 use Rattle.prism_syntax.specs.declared.tokens.Kind.TheVariants as k
 use Rattle.prism_syntax.specs.Models.{AreBranches}
-use Rattle.prism_command.specs.Marks.{Begins}
+use Rattle.prism_pieces.specs.Marks.{Begins}
 use Rattle.prism_command.specs.Followed.{ReadsOneBefore}
 use Rattle.prism_command.proofs.BranchLemmas.{without_weight, reads_alone, reads_not_alone}
-use Rattle.prism_command.proofs.AnswerLemmas.{refused, held}
+use Rattle.prism_pieces.proofs.AnswerLemmas.{refused, held}
 use Rattle.prism_command.proofs.branches.alone.Goals as goal
 
 pub returns-in_err-sets : goal.returns-in_err-sets

@@ -3,7 +3,7 @@ use Rattle.std.proofs.lemmas.Bool.{false≢true}
 use Rattle.prism_syntax.specs.Tokens.{kinds}
 use Rattle.prism_command.specs.Parts.{BeginsUpdate}
 use Rattle.prism_command.proofs.BranchLemmas.{reads_several, reads_no_several}
-use Rattle.prism_command.proofs.AnswerLemmas.{told}
+use Rattle.prism_pieces.proofs.AnswerLemmas.{told}
 use Rattle.prism_command.proofs.branches.branches.Goals as goal
 
 pub returns-else-begins_update : goal.returns-else-begins_update

@@ -1,5 +1,5 @@
 use Rattle.prism_command.proofs.EndedLemmas.{reads_ended, reads_unended, reads_no_branches}
-use Rattle.prism_command.proofs.AnswerLemmas.{refused}
+use Rattle.prism_pieces.proofs.AnswerLemmas.{refused}
 use Rattle.prism_command.proofs.branches.ended_branches.Goals as goal
 
 pub returns-in_err-branches : goal.returns-in_err-branches

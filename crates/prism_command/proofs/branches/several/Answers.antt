@@ -1,11 +1,11 @@
 use Rattle.std.proofs.Common.{◌≡◌, ◌∷◌, [], ◌++◌, sym, subst}
 use Rattle.prism_syntax.specs.declared.tokens.Kind.TheVariants as k
 use Rattle.prism_syntax.specs.Models.{IsWeighted, Separated}
-use Rattle.prism_command.specs.Marks.{Begins}
+use Rattle.prism_pieces.specs.Marks.{Begins}
 use Rattle.prism_command.specs.Followed.{ReadsOneBefore}
 use Rattle.prism_command.proofs.SeparatedLemmas.{HasRead, read_next, read_last, read_refused}
 use Rattle.prism_command.proofs.DividesLemmas.{branches_divide}
-use Rattle.prism_command.proofs.AnswerLemmas.{refused, held}
+use Rattle.prism_pieces.proofs.AnswerLemmas.{refused, held}
 use Rattle.prism_command.proofs.branches.several.Goals as goal
 
 pub returns-in_err-branch : goal.returns-in_err-branch

@@ -1,7 +1,7 @@
 use Rattle.std.proofs.Common.{length}
 use Rattle.prism_syntax.specs.declared.tokens.Kind.TheVariants as k
 use Rattle.prism_syntax.specs.Models.{IsWeighted}
-use Rattle.prism_command.specs.Marks.{Begins}
+use Rattle.prism_pieces.specs.Marks.{Begins}
 use Rattle.prism_command.proofs.SeparatedLemmas.{HasRead}
 use Rattle.prism_command.proofs.branches.several.Given as goal
 

@@ -1,6 +1,6 @@
 use Rattle.prism_command.proofs.JoinLemmas.{reads_joined_before, reads_no_first_before, reads_no_second_before}
 use Rattle.prism_command.proofs.BranchLemmas.{weighted_joins}
-use Rattle.prism_command.proofs.AnswerLemmas.{refused}
+use Rattle.prism_pieces.proofs.AnswerLemmas.{refused}
 use Rattle.prism_command.proofs.branches.weighted.Goals as goal
 
 pub returns-in_err-weight : goal.returns-in_err-weight

@@ -1,5 +1,5 @@
 use Rattle.prism_command.proofs.CommandLemmas.{reads_command, reads_no_head, reads_no_guard, reads_no_branches}
-use Rattle.prism_command.proofs.AnswerLemmas.{refused}
+use Rattle.prism_pieces.proofs.AnswerLemmas.{refused}
 use Rattle.prism_command.proofs.commands.command.Goals as goal
 
 pub returns-in_err-action : goal.returns-in_err-action

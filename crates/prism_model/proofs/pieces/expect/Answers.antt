@@ -1,9 +1,9 @@
-use Rattle.prism_model.specs.Marks.{kind_of}
+use Rattle.prism_pieces.specs.Marks.{kind_of}
+use Rattle.prism_pieces.proofs.AnswerLemmas.{told}
 use Rattle.prism_model.proofs.PieceLemmas.{just_read, no_just_read}
 use Rattle.prism_model.proofs.pieces.expect.Goals as goal
 
-pub returns-in-Some : goal.returns-in-Some
-returns-in-Some c = just_read (kind_of c.args.mark) c.args.tokens.now _ c.in-Some.ensures
-
-pub returns-in-None : goal.returns-in-None
-returns-in-None c = no_just_read (kind_of c.args.mark) c.args.tokens.now c.in-None.ensures
+pub returns : goal.returns
+returns c =
+    told _ _ _ _ c.after.result (λ rest is. just_read (kind_of c.args.mark) c.args.tokens.now rest.now is)
+    (λ left none. no_just_read (kind_of c.args.mark) c.args.tokens.now left none.0 none.1) c.after.ensures

@@ -1,5 +1,5 @@
 use Rattle.std.proofs.lemmas.Result.{err_from_is_err_and}
-use Rattle.prism_model.specs.Marks.{kind_of}
+use Rattle.prism_pieces.specs.Marks.{kind_of}
 use Rattle.prism_model.proofs.AnswerLemmas.{passed_up}
 use Rattle.prism_model.proofs.PieceLemmas.{led_read, no_led_read, unled_read, no_unled_read}
 use Rattle.prism_model.proofs.pieces.optional.Goals as goal

@@ -1,7 +1,7 @@
 use Rattle.std.proofs.lemmas.Result.{err_from_is_err_and}
 use Rattle.prism_syntax.specs.declared.tokens.Kind.TheVariants as k
 use Rattle.prism_model.proofs.AnswerLemmas.{passed_up}
-use Rattle.prism_model.proofs.PieceLemmas.{just_read, begins_after, begins_other}
+use Rattle.prism_model.proofs.PieceLemmas.{just_read, begins_after}
 use Rattle.prism_model.proofs.SequenceLemmas.{reads_both, reads_no_first, reads_no_second, reads_made, reads_none_made}
 use Rattle.prism_model.proofs.LineLemmas.{range_stands, truth_stands}
 use Rattle.prism_model.proofs.variables.range.Goals as goal
@@ -31,7 +31,7 @@ returns-in_err-rest-in-None c =
     let fault = err_from_is_err_and c.from_residual-in_err-rest-in-None.result c.from_residual-in_err-rest-in-None.ensures.1 in
     rw (fault.1, fault.2)
     (passed_up c.in_err-rest-in-None.field-0.0
-    (λ left none. reads_none_made (truth_stands _ (begins_other k.OpenBracket c.args.tokens.now c.in-None.ensures)) none)
+    (λ left none. reads_none_made (truth_stands _ c.in-None.ensures) none)
     c.in_err-rest-in-None.ensures)
 
 pub returns-in_ok-high-in-Some : goal.returns-in_ok-high-in-Some
@@ -42,4 +42,4 @@ returns-in_ok-high-in-Some c =
 
 pub returns-in_ok-rest-in-None : goal.returns-in_ok-rest-in-None
 returns-in_ok-rest-in-None c =
-    reads_made (truth_stands _ (begins_other k.OpenBracket c.args.tokens.now c.in-None.ensures)) c.in_ok-rest-in-None.ensures
+    reads_made (truth_stands _ c.in-None.ensures) c.in_ok-rest-in-None.ensures

@@ -2,9 +2,9 @@ ghost use Rattle.std.specs.Prelude.{◌≡◌, false};
 ghost use Rattle.prism_syntax.specs.declared.lines.Line.TheVariants as line;
 ghost use Rattle.prism_expression.specs.Answers.{Gives};
 ghost use Rattle.prism_expression.specs.Follow.{goes_on};
-ghost use Rattle.prism_command.specs.Marks.{kind_of};
-ghost use Rattle.prism_command.specs.Parts.{IsEnded};
-ghost use Rattle.prism_command.specs.Answers.{ReadsOne, ReadsNoOne};
+ghost use Rattle.prism_pieces.specs.Marks.{kind_of};
+ghost use Rattle.prism_pieces.specs.Ended.{IsEnded};
+ghost use Rattle.prism_pieces.specs.Answers.{ReadsOne, ReadsNoOne};
 
 use crate::marks::{Mark, past};
 use prism_expression::{Unread, read};

@@ -1,33 +1,73 @@
 ghost use Rattle.std.specs.Prelude.{◌≡◌, ◌≤◌, length, MatchBool, MatchOption};
 ghost use Rattle.prism_syntax.specs.Tokens.{kinds};
 ghost use Rattle.prism_expression.specs.Answers.{Gives};
-ghost use Rattle.prism_command.specs.Marks.{kind_of, Passes, PassesName, PassesSomeName, BeginsNot, BeginsNoName};
+ghost use Rattle.prism_pieces.specs.Marks.{kind_of, Passes, PassesName, PassesSomeName, BeginsNot, BeginsNoName};
 
 use prism_expression::Unread;
 use prism_syntax::{Kind, Token};
 use smc_num::Text;
 use std::alloc::Global;
 
-/// A symbol or word that stands in commands outside their expressions.
+/// A token that is always spelled alike.
 #[derive(Clone, Copy)]
 pub enum Mark {
+    /// `[`
     OpenBracket,
+    /// `]`
     CloseBracket,
+    /// `(`
     Open,
+    /// `)`
     Close,
+    /// `'`
     Prime,
+    /// `=`
     Equal,
+    /// `->`
     Arrow,
+    /// `:`
     Colon,
-    Ampersand,
-    Plus,
+    /// `;`
     Semicolon,
+    /// `,`
+    Comma,
+    /// `..`
+    Dots,
+    /// `&`
+    Ampersand,
+    /// `+`
+    Plus,
+    /// `true`
     True,
+    /// `bool`
+    Bool,
+    /// `const`
+    Const,
+    /// `double`
+    Double,
+    /// `endmodule`
+    EndModule,
+    /// `endrewards`
+    EndRewards,
+    /// `formula`
+    Formula,
+    /// `global`
+    Global,
+    /// `init`
+    Init,
+    /// `int`
+    Int,
+    /// `label`
+    Label,
+    /// `module`
+    Module,
+    /// `rewards`
+    Rewards,
 }
 
 impl Mark {
-    /// Whether a token is this symbol or word.
-    fn is(self, kind: &Kind) -> bool
+    /// Whether a token is this one.
+    pub fn is(self, kind: &Kind) -> bool
         ensures { MatchBool result (kind.now ≡ kind_of self) (kind.now ≡ kind_of self → ⊥) }
     {
         match (self, kind) {
@@ -39,10 +79,24 @@ impl Mark {
             | (Mark::Equal, Kind::Equal)
             | (Mark::Arrow, Kind::Arrow)
             | (Mark::Colon, Kind::Colon)
+            | (Mark::Semicolon, Kind::Semicolon)
+            | (Mark::Comma, Kind::Comma)
+            | (Mark::Dots, Kind::Dots)
             | (Mark::Ampersand, Kind::Ampersand)
             | (Mark::Plus, Kind::Plus)
-            | (Mark::Semicolon, Kind::Semicolon)
-            | (Mark::True, Kind::True) => true,
+            | (Mark::True, Kind::True)
+            | (Mark::Bool, Kind::Bool)
+            | (Mark::Const, Kind::Const)
+            | (Mark::Double, Kind::Double)
+            | (Mark::EndModule, Kind::EndModule)
+            | (Mark::EndRewards, Kind::EndRewards)
+            | (Mark::Formula, Kind::Formula)
+            | (Mark::Global, Kind::Global)
+            | (Mark::Init, Kind::Init)
+            | (Mark::Int, Kind::Int)
+            | (Mark::Label, Kind::Label)
+            | (Mark::Module, Kind::Module)
+            | (Mark::Rewards, Kind::Rewards) => true,
             _ => false,
         }
     }

@@ -8,10 +8,10 @@ use Rattle.prism_syntax.specs.Tokens.{kinds}
 use Rattle.prism_syntax.specs.Expressions.{IsLongest, IsExpr}
 use Rattle.prism_expression.specs.Answers.{Reads, ReadsNone}
 use Rattle.prism_expression.specs.Follow.{goes_on}
-use Rattle.prism_command.specs.Marks.{Passes, BeginsNot}
-use Rattle.prism_command.specs.Parts.{IsEnded}
-use Rattle.prism_command.specs.Parts.IsEnded.{ended}
-use Rattle.prism_command.specs.Answers.{IsOnly, HasNone, ReadsOne, ReadsNoOne}
+use Rattle.prism_pieces.specs.Marks.{Passes, BeginsNot}
+use Rattle.prism_pieces.specs.Ended.{IsEnded}
+use Rattle.prism_pieces.specs.Ended.IsEnded.{ended}
+use Rattle.prism_pieces.specs.Answers.{IsOnly, HasNone, ReadsOne, ReadsNoOne}
 use Rattle.prism_expression.proofs.CompareLemmas.{closed}
 
 -- what an expression with its end is at the front of some tokens
