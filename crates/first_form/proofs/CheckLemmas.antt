@@ -4,9 +4,9 @@ use Rattle.std.specs.List.{list_any, slice_get, AllByRecursion, IsDistinct}
 use Rattle.std.specs.Str.{bytes_eq}
 use Rattle.std.proofs.lemmas.Bool.{false≢true}
 use Rattle.std.proofs.lemmas.Option.{none-some, same_Some, slice_get_within, slice_get-get_or}
-use Rattle.chain_model.specs.declared.chain.Var.{Var}
-use Rattle.chain_model.specs.declared.chain.Arm.{Arm}
-use Rattle.chain_model.specs.WellFormed.{IsBranch}
+use Rattle.first_chain.specs.declared.chain.Var.{Var}
+use Rattle.first_chain.specs.declared.chain.Arm.{Arm}
+use Rattle.first_chain.specs.WellFormed.{IsBranch}
 use Rattle.first_form.specs.Reads.{AreApart}
 use Rattle.first_form.proofs.FrontLemmas.{nobody}
 

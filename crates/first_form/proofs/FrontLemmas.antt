@@ -10,9 +10,9 @@ use Rattle.std.proofs.lemmas.Option.{none-some, same_Some, cond_some, option_and
 use Rattle.std.proofs.lemmas.Slice.Eq.{bytes_eq-Decides}
 use Rattle.first_form.proofs.TokenLemmas.{chosen}
 use denote.Enum.Bare.{same_true}
-use Rattle.chain_model.specs.declared.chain.Var.{Var}
-use Rattle.chain_model.specs.declared.chain.Comparison.{Comparison}
-use Rattle.chain_model.specs.declared.chain.Arm.{Arm}
+use Rattle.first_chain.specs.declared.chain.Var.{Var}
+use Rattle.first_chain.specs.declared.chain.Comparison.{Comparison}
+use Rattle.first_chain.specs.declared.chain.Arm.{Arm}
 use Rattle.first_form.specs.contracts.token.Symbol.{the_type}
 use Rattle.first_form.specs.declared.token.Token.{Token}
 use Rattle.first_form.specs.declared.token.Token.TheVariants.{Name, Whole, Fixed}

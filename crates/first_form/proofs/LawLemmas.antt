@@ -4,13 +4,13 @@ use Rattle.std.proofs.Props.{props}
 use Rattle.std.proofs.lemmas.Option.{same_Some}
 use mathlib.Core.HLevel.{is_prop→PathP}
 use mathlib.Core.Path.{PathP}
-use Rattle.chain_model.specs.declared.chain.Var.{Var}
-use Rattle.chain_model.specs.declared.chain.Chain.{Chain}
-use Rattle.chain_model.specs.declared.job.Path.{Path}
-use Rattle.chain_model.specs.declared.job.PathKind.{PathKind}
-use Rattle.chain_model.specs.declared.job.PathKind.TheVariants as kinds
-use Rattle.chain_model.specs.Horizon.{horizon_of}
-use Rattle.chain_model.specs.WellFormed.{IsWellFormed}
+use Rattle.first_chain.specs.declared.chain.Var.{Var}
+use Rattle.first_chain.specs.declared.chain.Chain.{Chain}
+use Rattle.first_chain.specs.declared.job.Path.{Path}
+use Rattle.first_chain.specs.declared.job.PathKind.{PathKind}
+use Rattle.first_chain.specs.declared.job.PathKind.TheVariants as kinds
+use Rattle.first_chain.specs.Horizon.{horizon_of}
+use Rattle.first_chain.specs.WellFormed.{IsWellFormed}
 use Rattle.first_form.specs.declared.token.Token.{Token}
 use Rattle.first_form.specs.Model.{model_tokens, name_of, IsModel}
 use Rattle.first_form.specs.Property.{property_tokens, IsProperty}

@@ -3,11 +3,11 @@ use Rattle.std.proofs.Common.{◌≡◌, ℕ, ◌≤◌, false, List, [], ◌∷
 use Rattle.std.specs.List.{flat_map}
 use Rattle.std.proofs.lemmas.List.Elements.{All-weaker}
 use Rattle.std.proofs.lemmas.Option.{none-some, same_Some, some_pair_parts}
-use Rattle.chain_model.specs.declared.chain.Var.{Var}
-use Rattle.chain_model.specs.declared.chain.Arm.{Arm}
-use Rattle.chain_model.specs.declared.chain.Act.{Act}
-use Rattle.chain_model.specs.declared.chain.Chain.{Chain}
-use Rattle.chain_model.specs.WellFormed.{IsBranch, IsCommand, IsWellFormed}
+use Rattle.first_chain.specs.declared.chain.Var.{Var}
+use Rattle.first_chain.specs.declared.chain.Arm.{Arm}
+use Rattle.first_chain.specs.declared.chain.Act.{Act}
+use Rattle.first_chain.specs.declared.chain.Chain.{Chain}
+use Rattle.first_chain.specs.WellFormed.{IsBranch, IsCommand, IsWellFormed}
 use Rattle.first_form.specs.declared.token.Token.{Token}
 use Rattle.first_form.specs.declared.token.Token.TheVariants.{Name, Fixed}
 use Rattle.first_form.specs.declared.token.Symbol.TheVariants.{Dtmc, Module, EndModule, OpenBracket}

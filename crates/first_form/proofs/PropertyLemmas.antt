@@ -1,9 +1,9 @@
 -- How a property is read, and when a text is that of a path formula.
 use Rattle.std.proofs.Common.{◌≡◌, ℕ, ◌<◌, ◌≤◌, pos, List, [], ◌∷◌, ◌++◌, length, Option, Some, None, MatchOption, refl, sym, ap, ◌∙◌, subst, arith}
 use Rattle.std.proofs.lemmas.Option.{none-some, same_Some, option_and_then_some, some_pair_parts}
-use Rattle.chain_model.specs.declared.chain.Var.{Var}
-use Rattle.chain_model.specs.declared.job.Path.{Path}
-use Rattle.chain_model.specs.Horizon.{horizon_of}
+use Rattle.first_chain.specs.declared.chain.Var.{Var}
+use Rattle.first_chain.specs.declared.job.Path.{Path}
+use Rattle.first_chain.specs.Horizon.{horizon_of}
 use Rattle.first_form.specs.declared.token.Token.{Token}
 use Rattle.first_form.specs.declared.token.Token.TheVariants.{Name, Whole, Fixed}
 use Rattle.first_form.specs.declared.token.Symbol.TheVariants.{Probability, Finally, OpenBracket, CloseBracket, Equals, Slash, AtLeast, AtMost}

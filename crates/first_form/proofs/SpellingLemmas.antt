@@ -4,10 +4,10 @@ use Rattle.std.specs.List.{flat_map, All}
 use Rattle.std.proofs.lemmas.List.{append_assoc}
 use Rattle.std.proofs.lemmas.List.Elements.{All-head, All-tail, All-cons, recursion_from_All}
 use Rattle.std.proofs.lemmas.Option.{none-some, some_pair_parts}
-use Rattle.chain_model.specs.declared.chain.Var.{Var}
-use Rattle.chain_model.specs.declared.chain.Comparison.{Comparison}
-use Rattle.chain_model.specs.declared.chain.Arm.{Arm}
-use Rattle.chain_model.specs.declared.chain.Act.{Act}
+use Rattle.first_chain.specs.declared.chain.Var.{Var}
+use Rattle.first_chain.specs.declared.chain.Comparison.{Comparison}
+use Rattle.first_chain.specs.declared.chain.Arm.{Arm}
+use Rattle.first_chain.specs.declared.chain.Act.{Act}
 use Rattle.first_form.specs.declared.token.Token.{Token}
 use Rattle.first_form.specs.declared.token.Token.TheVariants.{Fixed}
 use Rattle.first_form.specs.declared.token.Symbol.TheVariants.{Plus, Semicolon, OpenBracket}

@@ -3,9 +3,9 @@ use Rattle.std.specs.Prelude.{◌==◌, ℕ, pos, negsuc, ℤ, List, [], ◌∷�
 use Rattle.std.specs.List.{position}
 use Rattle.std.specs.Str.{bytes_eq}
 use denote.Enum.Bare.{sameb}
-use Rattle.chain_model.specs.declared.chain.Var.{Var}
-use Rattle.chain_model.specs.declared.chain.Comparison.{Comparison}
-use Rattle.chain_model.specs.declared.chain.Arm.{Arm}
+use Rattle.first_chain.specs.declared.chain.Var.{Var}
+use Rattle.first_chain.specs.declared.chain.Comparison.{Comparison}
+use Rattle.first_chain.specs.declared.chain.Arm.{Arm}
 use Rattle.first_form.specs.declared.token.Token.{Token}
 use Rattle.first_form.specs.declared.token.Token.TheVariants.{Name, Whole, Fixed}
 use Rattle.first_form.specs.declared.token.Symbol.{Symbol}

@@ -2,11 +2,11 @@
 use Rattle.std.specs.Prelude.{◌≡◌, ℕ, ◌+◌, ◌*◌, ◌≤◌, pos, List, [], ◌∷◌, ◌++◌, Some, length, map, option_map, unwrap_or, slice_get, sum_by}
 use Rattle.std.specs.List.{flat_map, IsDistinct}
 use Rattle.std.specs.Str.{bytes_eq}
-use Rattle.chain_model.specs.declared.chain.Var.{Var}
-use Rattle.chain_model.specs.declared.chain.Comparison.{Comparison}
-use Rattle.chain_model.specs.declared.chain.Arm.{Arm}
-use Rattle.chain_model.specs.declared.chain.Act.{Act}
-use Rattle.chain_model.specs.declared.chain.Chain.{Chain}
+use Rattle.first_chain.specs.declared.chain.Var.{Var}
+use Rattle.first_chain.specs.declared.chain.Comparison.{Comparison}
+use Rattle.first_chain.specs.declared.chain.Arm.{Arm}
+use Rattle.first_chain.specs.declared.chain.Act.{Act}
+use Rattle.first_chain.specs.declared.chain.Chain.{Chain}
 use Rattle.first_form.specs.declared.token.Token.{Token}
 use Rattle.first_form.specs.declared.token.Token.TheVariants.{Name, Whole, Fixed}
 use Rattle.first_form.specs.declared.token.Symbol.TheVariants.{Dtmc, Module, Init, EndModule, Colon, Semicolon, OpenBracket, CloseBracket, Dots, Equals, Arrow, Slash, OpenParenthesis, CloseParenthesis, Prime, Plus}

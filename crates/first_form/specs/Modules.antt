@@ -1,7 +1,7 @@
 -- What the tokens of a whole module are read as.
 use Rattle.std.specs.Prelude.{◌≡◌, ℕ, ◌≤◌, List, Option, Some, All, IfSome, length}
-use Rattle.chain_model.specs.declared.chain.Var.{Var}
-use Rattle.chain_model.specs.declared.chain.Act.{Act}
+use Rattle.first_chain.specs.declared.chain.Var.{Var}
+use Rattle.first_chain.specs.declared.chain.Act.{Act}
 use Rattle.first_form.specs.declared.token.Token.{Token}
 use Rattle.first_form.specs.Model.{model_tokens}
 use Rattle.first_form.specs.Reads.{AreApart, IsKnownCommand}

@@ -1,8 +1,8 @@
 -- The texts of a property: `P >= NUMERATOR / DENOMINATOR [ F <= HORIZON NAME = VALUE ]`.
 use Rattle.std.specs.Prelude.{◌≡◌, ℕ, ◌<◌, ◌≤◌, pos, List, [], ◌∷◌, Some, length}
-use Rattle.chain_model.specs.declared.chain.Var.{Var}
-use Rattle.chain_model.specs.declared.job.Path.{Path}
-use Rattle.chain_model.specs.Horizon.{horizon_of}
+use Rattle.first_chain.specs.declared.chain.Var.{Var}
+use Rattle.first_chain.specs.declared.job.Path.{Path}
+use Rattle.first_chain.specs.Horizon.{horizon_of}
 use Rattle.first_form.specs.declared.token.Token.{Token}
 use Rattle.first_form.specs.declared.token.Token.TheVariants.{Name, Whole, Fixed}
 use Rattle.first_form.specs.declared.token.Symbol.TheVariants.{Probability, Finally, OpenBracket, CloseBracket, Equals, Slash, AtLeast, AtMost}

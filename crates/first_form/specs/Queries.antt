@@ -1,7 +1,7 @@
 -- What the tokens of a property are read as, before its variable is looked up.
 use Rattle.std.specs.Prelude.{◌≡◌, ℕ, ◌<◌, ◌≤◌, ℤ, pos, List, [], ◌∷◌, Option, Some, length}
-use Rattle.chain_model.specs.declared.chain.Var.{Var}
-use Rattle.chain_model.specs.declared.job.Path.{Path}
+use Rattle.first_chain.specs.declared.chain.Var.{Var}
+use Rattle.first_chain.specs.declared.job.Path.{Path}
 use Rattle.first_form.specs.declared.token.Token.{Token}
 use Rattle.first_form.specs.declared.token.Token.TheVariants.{Name, Whole, Fixed}
 use Rattle.first_form.specs.declared.token.Symbol.TheVariants.{Probability, Finally, OpenBracket, CloseBracket, Equals, Slash, AtLeast, AtMost}

@@ -2,9 +2,9 @@
 use Rattle.std.specs.Prelude.{◌≡◌, ◌<◌, ◌≤◌, Bool, false, List, ◌++◌, Option, Some, IfSome, is_some, All, length, map}
 use Rattle.std.specs.List.{flat_map, IsDistinct}
 use Rattle.std.specs.Str.{bytes_eq}
-use Rattle.chain_model.specs.declared.chain.Var.{Var}
-use Rattle.chain_model.specs.declared.chain.Arm.{Arm}
-use Rattle.chain_model.specs.declared.chain.Act.{Act}
+use Rattle.first_chain.specs.declared.chain.Var.{Var}
+use Rattle.first_chain.specs.declared.chain.Arm.{Arm}
+use Rattle.first_chain.specs.declared.chain.Act.{Act}
 use Rattle.first_form.specs.declared.token.Token.{Token}
 use Rattle.first_form.specs.declared.token.Symbol.{Symbol}
 use Rattle.first_form.specs.Front.{after_symbol, name_at}

@@ -1,11 +1,11 @@
 ghost use Rattle.std.specs.Prelude.{◌≡◌, ◌≤◌, ◌≤ℤ◌, ◌↔◌, IsTrue, All, length, sum_by};
 ghost use Rattle.std.specs.List.{list_any};
 ghost use Rattle.std.specs.Str.{bytes_eq};
-ghost use Rattle.chain_model.specs.WellFormed.{StartsInRange, IsBranch, IsCommand, IsWellFormed};
+ghost use Rattle.first_chain.specs.WellFormed.{StartsInRange, IsBranch, IsCommand, IsWellFormed};
 ghost use Rattle.first_form.specs.Model.{node_count};
 ghost use Rattle.first_form.specs.Reads.{AreApart};
 
-use chain_model::{Act, Arm, Var};
+use first_chain::{Act, Arm, Var};
 use sqlite_items::at;
 
 /// The greatest number of variables.

@@ -4,7 +4,7 @@ ghost use Rattle.first_form.specs.declared.token.Symbol.TheVariants.{EndModule};
 ghost use Rattle.first_form.specs.Front.{after_symbol, name_at, whole_at, natural_at, number_of, known_at, after_heading};
 
 use crate::token::{Symbol, Token};
-use chain_model::Var;
+use first_chain::Var;
 
 /// The tokens after this symbol.
 pub fn symbol(tokens: &[Token], symbol: Symbol) -> Option<&[Token]>

@@ -3,9 +3,9 @@
 ghost use Rattle.std.specs.Prelude.{◌≡◌, ℕ, List, map};
 ghost use Rattle.std.specs.List.{IsDistinct};
 ghost use Rattle.std.specs.Str.{bytes_eq};
-ghost use Rattle.chain_model.specs.declared.chain.Chain.{Chain};
-ghost use Rattle.chain_model.specs.declared.chain.Var.{Var};
-ghost use Rattle.chain_model.specs.declared.job.Path.{Path};
+ghost use Rattle.first_chain.specs.declared.chain.Chain.{Chain};
+ghost use Rattle.first_chain.specs.declared.chain.Var.{Var};
+ghost use Rattle.first_chain.specs.declared.job.Path.{Path};
 ghost use Rattle.first_form.specs.Model.{IsModel};
 ghost use Rattle.first_form.specs.Property.{IsProperty};
 

@@ -3,7 +3,7 @@ ghost use Rattle.first_form.specs.Front.{variable_at, guard_at, branch_at, furth
 
 use crate::front::{known, name, natural, symbol, whole};
 use crate::token::{Symbol, Token};
-use chain_model::{Arm, Comparison, Var};
+use first_chain::{Arm, Comparison, Var};
 use sqlite_items::Items;
 use std::alloc::{AllocError, Global};
 

@@ -6,7 +6,7 @@ ghost use Rattle.first_form.specs.Reads.{Reads, ReadsAll, IsAny, IsKnown, IsKnow
 use crate::front::{name, symbol};
 use crate::lines::{branch, further, guard, variable};
 use crate::token::{Symbol, Token};
-use chain_model::{Act, Arm, Var};
+use first_chain::{Act, Arm, Var};
 use sqlite_items::Items;
 use std::alloc::{AllocError, Global};
 

@@ -1,5 +1,5 @@
 ghost use Rattle.std.specs.Prelude.{◌≡◌, ◌≤◌, ℕ, List, All, IfOk, MatchOption, IsTrue, ◌↔◌, length, option_map};
-ghost use Rattle.chain_model.specs.declared.chain.Chain.{Chain};
+ghost use Rattle.first_chain.specs.declared.chain.Chain.{Chain};
 ghost use Rattle.first_form.specs.Modules.{ReadsModule};
 ghost use Rattle.first_form.specs.Model.{IsModel};
 
@@ -8,7 +8,7 @@ use crate::front::{after_heading, is_end};
 use crate::lexer::tokens;
 use crate::lists::{commands, variables};
 use crate::token::Token;
-use chain_model::{Act, Chain, Var};
+use first_chain::{Act, Chain, Var};
 use sqlite_items::Items;
 use std::alloc::{AllocError, Global};
 

@@ -1,13 +1,13 @@
 ghost use Rattle.std.specs.Prelude.{◌≡◌, ◌≤◌, ◌<◌, ◌^◌, IfOk, MatchOption, length, option_map};
-ghost use Rattle.chain_model.specs.Horizon.{horizon_of};
+ghost use Rattle.first_chain.specs.Horizon.{horizon_of};
 ghost use Rattle.first_form.specs.Property.{IsProperty};
 ghost use Rattle.first_form.specs.Queries.{query_at, IsAsked};
-ghost use Rattle.chain_model.specs.declared.job.Path.{Path};
+ghost use Rattle.first_chain.specs.declared.job.Path.{Path};
 
 use crate::front::{name, natural, number_of, symbol, whole};
 use crate::lexer::tokens;
 use crate::token::{Symbol, Token};
-use chain_model::{Chain, Comparison, Path, PathKind, Var};
+use first_chain::{Chain, Comparison, Path, PathKind, Var};
 use std::alloc::{AllocError, Global};
 
 /// The greatest number of bytes of a property.

@@ -1,5 +1,5 @@
 use crate::{model, property};
-use chain_model::{Chain, PathKind};
+use first_chain::{Chain, PathKind};
 use std::alloc::{AllocError, Global};
 use std::process::Abort;
 use std::test::Fail;

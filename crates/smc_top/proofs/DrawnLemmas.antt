@@ -3,22 +3,22 @@ use Rattle.std.proofs.Common.{◌≡◌, ◌≢◌, ◌==◌, ℕ, zero, suc, �
 use Rattle.std.specs.List.{list_any}
 use Rattle.std.proofs.lemmas.List.Folds.{list_any-append}
 use Rattle.std.proofs.lemmas.List.{take_all, take-append-le}
-use Rattle.chain_model.specs.declared.job.Job.{Job}
-use Rattle.chain_model.specs.declared.outcome.Outcome.{Outcome}
-use Rattle.chain_model.specs.declared.outcome.TraceFault.{TraceFault}
-use Rattle.chain_model.specs.declared.outcome.Outcome.TheVariants.{True, False, Fault}
-use Rattle.chain_model.specs.Outcome.{IsOutcome, IsTruthValue}
-use Rattle.stop_rules.specs.declared.end.Cause.{Cause}
-use Rattle.stop_rules.specs.declared.end.Cause.TheVariants as cause
-use Rattle.stop_rules.specs.declared.end.End.{End}
-use Rattle.stop_rules.specs.declared.goal.Goal.{Goal}
+use Rattle.first_chain.specs.declared.job.Job.{Job}
+use Rattle.first_chain.specs.declared.outcome.Outcome.{Outcome}
+use Rattle.first_chain.specs.declared.outcome.TraceFault.{TraceFault}
+use Rattle.first_chain.specs.declared.outcome.Outcome.TheVariants.{True, False, Fault}
+use Rattle.first_chain.specs.Outcome.{IsOutcome, IsTruthValue}
+use Rattle.first_stop.specs.declared.end.Cause.{Cause}
+use Rattle.first_stop.specs.declared.end.Cause.TheVariants as cause
+use Rattle.first_stop.specs.declared.end.End.{End}
+use Rattle.first_stop.specs.declared.goal.Goal.{Goal}
 use Rattle.sampling_plan.specs.declared.class.Class.{Class}
 use Rattle.sampling_plan.specs.declared.class.Class.TheVariants as class
 use Rattle.sampling_plan.specs.Decision.{class_of}
-use Rattle.stop_rules.specs.Counts.{is_fault, successes_of, failures_of, cause_of, or_limit, cause_after}
-use Rattle.stop_rules.specs.Tallied.{Counted, Counts, end_after}
-use Rattle.stop_rules.specs.Run.{AreOutcomes, GoesOn, EndsRun}
-use Rattle.stop_rules.proofs.TallyLemmas.{counts_all}
+use Rattle.first_stop.specs.Counts.{is_fault, successes_of, failures_of, cause_of, or_limit, cause_after}
+use Rattle.first_stop.specs.Tallied.{Counted, Counts, end_after}
+use Rattle.first_stop.specs.Run.{AreOutcomes, GoesOn, EndsRun}
+use Rattle.first_stop.proofs.TallyLemmas.{counts_all}
 
 -- so many traces were drawn, and nothing has ended the run yet
 pub record Drawn (job : Job) (goal : Goal) (trace : ℕ) (counted : Counted) : Type 0 where

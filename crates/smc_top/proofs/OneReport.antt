@@ -5,20 +5,20 @@ use Rattle.std.specs.List.{IsDistinct}
 use Rattle.std.specs.Str.{bytes_eq}
 use mathlib.Core.HLevel.{is_prop→PathP}
 use mathlib.Core.Path.{PathP}
-use Rattle.chain_model.specs.declared.chain.Chain.{Chain}
-use Rattle.chain_model.specs.declared.chain.Var.{Var}
-use Rattle.chain_model.specs.declared.job.Job.{Job}
-use Rattle.chain_model.specs.declared.job.Path.{Path}
+use Rattle.first_chain.specs.declared.chain.Chain.{Chain}
+use Rattle.first_chain.specs.declared.chain.Var.{Var}
+use Rattle.first_chain.specs.declared.job.Job.{Job}
+use Rattle.first_chain.specs.declared.job.Path.{Path}
 use Rattle.first_form.specs.Model.{IsModel}
 use Rattle.first_form.specs.Property.{IsProperty}
 use Rattle.sampling_plan.specs.SinglePlan.{SinglePlan}
 use Rattle.smc_io.specs.Files.{Named, bytes_at}
-use Rattle.smc_settings.specs.declared.check.Check.{Check}
-use Rattle.smc_settings.specs.Settings.{settings_of}
-use Rattle.smc_report.specs.Report.{report_of}
-use Rattle.stop_rules.specs.declared.end.End.{End}
-use Rattle.stop_rules.specs.declared.goal.Goal.{Goal}
-use Rattle.stop_rules.specs.Run.{EndsRun}
+use Rattle.first_words.specs.declared.check.Check.{Check}
+use Rattle.first_words.specs.Settings.{settings_of}
+use Rattle.first_report.specs.Report.{report_of}
+use Rattle.first_stop.specs.declared.end.End.{End}
+use Rattle.first_stop.specs.declared.goal.Goal.{Goal}
+use Rattle.first_stop.specs.Run.{EndsRun}
 use Rattle.smc_top.specs.declared.report.Report.{Report}
 use Rattle.smc_top.specs.Job.{IsJob, IsGoal, IsOutside}
 use Rattle.smc_top.specs.Report.{status_of, IsRunReport, IsCheckReport, IsReportOf, IsReport}

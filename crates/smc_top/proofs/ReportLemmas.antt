@@ -3,8 +3,8 @@ use Rattle.std.proofs.Common.{◌≡◌, ℕ, List, Option, Some, None, Result, 
 use Rattle.std.specs.declared.alloc.AllocError.{AllocError}
 use Rattle.smc_io.specs.Files.{Named, bytes_at}
 use Rattle.smc_io.specs.Bytes.{Told}
-use Rattle.smc_settings.specs.declared.check.Check.{Check}
-use Rattle.smc_settings.specs.Settings.{settings_of}
+use Rattle.first_words.specs.declared.check.Check.{Check}
+use Rattle.first_words.specs.Settings.{settings_of}
 use Rattle.smc_top.specs.declared.prepare.Stop.{Stop}
 use Rattle.smc_top.specs.declared.prepare.Stop.TheVariants as stop
 use Rattle.smc_top.specs.declared.report.Report.{Report}

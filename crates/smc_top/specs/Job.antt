@@ -1,10 +1,10 @@
 -- What the settings and the model's text ask for: the job that traces are drawn for, and the goal that they are counted for.
 use Rattle.std.specs.Prelude.{◌≡◌, ◌⊎◌, ℕ, ◌<◌, ◌≤◌, List}
-use Rattle.chain_model.specs.declared.job.Job.{Job}
+use Rattle.first_chain.specs.declared.job.Job.{Job}
 use Rattle.first_form.specs.Model.{IsModel}
 use Rattle.first_form.specs.Property.{IsProperty}
-use Rattle.smc_settings.specs.declared.check.Check.{Check}
-use Rattle.stop_rules.specs.declared.goal.Goal.{Goal}
+use Rattle.first_words.specs.declared.check.Check.{Check}
+use Rattle.first_stop.specs.declared.goal.Goal.{Goal}
 
 -- the job of settings and a model's text: the text's chain, the formula of the property over it, and the seed
 pub record IsJob (check : Check) (text : List ℕ) (job : Job) : Type 0 where

@@ -1,6 +1,6 @@
 -- What the outside can do to a call: a source or a sink that fails, or memory that runs out.
 use Rattle.std.specs.Prelude.{◌≡◌, ◌⊎◌, ℕ, ◌+◌, ◌≤◌, List, Option, Some, None}
-use Rattle.smc_settings.specs.declared.check.Check.{Check}
+use Rattle.first_words.specs.declared.check.Check.{Check}
 use Rattle.smc_top.specs.declared.status.Status.{Status}
 use Rattle.smc_top.specs.declared.status.Status.TheVariants.{Accepted, Rejected, Undecided, Usage, ReadFault, ModelRefused, PropertyRefused, SettingsRefused, TraceFault, WriteFault, OutOfMemory, NotThisForm}
 

@@ -1,18 +1,18 @@
 -- The report of words over files: the status that the program ends with, and the bytes that it writes.
 use Rattle.std.specs.Prelude.{◌≡◌, ◌≢◌, ◌⊎◌, ℕ, List, Option, Some, None}
 use Rattle.smc_io.specs.Files.{Named, bytes_at}
-use Rattle.chain_model.specs.declared.job.Job.{Job}
-use Rattle.smc_settings.specs.declared.check.Check.{Check}
-use Rattle.smc_settings.specs.Settings.{settings_of}
-use Rattle.stop_rules.specs.declared.end.Cause.{Cause}
-use Rattle.stop_rules.specs.declared.end.Cause.TheVariants.{Accept, Reject, Close, Limit, Fault}
-use Rattle.stop_rules.specs.declared.end.End.{End}
-use Rattle.stop_rules.specs.declared.goal.Goal.{Goal}
-use Rattle.stop_rules.specs.Run.{EndsRun}
-use Rattle.smc_report.specs.declared.refused.Refusal.{Refusal}
-use Rattle.smc_report.specs.declared.refused.Refusal.TheVariants as refusal
-use Rattle.smc_report.specs.Report.{report_of}
-use Rattle.smc_report.specs.Refusals.{refusal_of}
+use Rattle.first_chain.specs.declared.job.Job.{Job}
+use Rattle.first_words.specs.declared.check.Check.{Check}
+use Rattle.first_words.specs.Settings.{settings_of}
+use Rattle.first_stop.specs.declared.end.Cause.{Cause}
+use Rattle.first_stop.specs.declared.end.Cause.TheVariants.{Accept, Reject, Close, Limit, Fault}
+use Rattle.first_stop.specs.declared.end.End.{End}
+use Rattle.first_stop.specs.declared.goal.Goal.{Goal}
+use Rattle.first_stop.specs.Run.{EndsRun}
+use Rattle.first_report.specs.declared.refused.Refusal.{Refusal}
+use Rattle.first_report.specs.declared.refused.Refusal.TheVariants as refusal
+use Rattle.first_report.specs.Report.{report_of}
+use Rattle.first_report.specs.Refusals.{refusal_of}
 use Rattle.smc_top.specs.declared.report.Report.{Report}
 use Rattle.smc_top.specs.declared.status.Status.{Status}
 use Rattle.smc_top.specs.declared.status.Status.TheVariants.{Accepted, Rejected, Undecided, Usage, TraceFault, NotThisForm}

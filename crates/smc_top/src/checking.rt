@@ -6,12 +6,12 @@ use crate::job::{goal, job};
 use crate::report::Report;
 use crate::sampling::draw;
 use crate::status::Status;
-use one_trace::TraceWork;
-use smc_report::{Refusal, report};
-use smc_settings::Check;
+use first_report::{Refusal, report};
+use first_stop::Cause;
+use first_trace::TraceWork;
+use first_words::Check;
 use sqlite_items::Items;
 use std::alloc::{AllocError, Global};
-use stop_rules::Cause;
 
 /// The report of `check` on a model's text.
 pub fn check(alloc: Global, check: &Check, text: &[u8]) -> Result<Report, AllocError>

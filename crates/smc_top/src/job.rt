@@ -1,13 +1,13 @@
 ghost use Rattle.std.specs.Prelude.{◌≡◌, ℕ, ◌≤◌, ◌^◌, IfOk, MatchOption};
-ghost use Rattle.chain_model.specs.declared.job.Job.{Job};
+ghost use Rattle.first_chain.specs.declared.job.Job.{Job};
 ghost use Rattle.smc_top.specs.Job.{IsJob, IsGoal};
 
-use chain_model::Job;
+use first_chain::Job;
 use first_form::{model, one_model, property};
+use first_stop::Goal;
+use first_words::Check;
 use sampling_plan::Plan;
-use smc_settings::Check;
 use std::alloc::{AllocError, Global};
-use stop_rules::Goal;
 
 /// The job that the settings and the model's text ask for; none where one of the texts is outside the form that is read.
 pub fn job(alloc: Global, check: &Check, text: &[u8]) -> Result<Option<Job>, AllocError>

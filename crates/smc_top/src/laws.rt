@@ -6,7 +6,7 @@ ghost use Rattle.smc_top.specs.Report.{IsReport};
 ghost use Rattle.smc_top.specs.declared.report.Report.{Report};
 
 use first_form::{one_model, one_property};
-use stop_rules::one_end;
+use first_stop::one_end;
 
 /// Law: words have at most one report over the same files.
 pub fn one_report()

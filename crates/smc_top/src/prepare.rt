@@ -1,17 +1,17 @@
 ghost use Rattle.std.specs.Prelude.{◌≡◌, ◌^◌, ◌-◌, ◌<◌, map, string_bytes, None, IfOk, MatchResult, IsErrOf, ◌↔◌};
 ghost use Rattle.smc_io.specs.Bytes.{Told};
 ghost use Rattle.smc_io.specs.Counts.{Rose};
-ghost use Rattle.smc_settings.specs.Settings.{settings_of};
-ghost use Rattle.smc_report.specs.Refusals.{refusal_of};
+ghost use Rattle.first_words.specs.Settings.{settings_of};
+ghost use Rattle.first_report.specs.Refusals.{refusal_of};
 ghost use Rattle.smc_top.specs.Outside.{IsCutShort, OpensAtMost};
 ghost use Rattle.smc_top.specs.Report.{IsReport};
 
 use crate::checking::check;
 use crate::report::Report;
 use crate::status::Status;
+use first_report::Refusal;
+use first_words::{Usage, settings};
 use smc_io::{ReadAll, Source, read_all};
-use smc_report::Refusal;
-use smc_settings::{Usage, settings};
 use std::alloc::{AllocError, Global};
 
 /// How many bytes the text of a model has at most.

@@ -1,8 +1,8 @@
 ghost use Rattle.std.specs.Prelude.{◌≡◌, IfOk};
-ghost use Rattle.smc_report.specs.Refusals.{refusal_of};
+ghost use Rattle.first_report.specs.Refusals.{refusal_of};
 
 use crate::status::Status;
-use smc_report::Refusal;
+use first_report::Refusal;
 use sqlite_items::Items;
 use std::alloc::{AllocError, Global};
 
@@ -20,7 +20,7 @@ impl Report {
     {
         Ok(Report {
             status,
-            bytes: Items::from_vec(smc_report::refusal(alloc, &refusal)?),
+            bytes: Items::from_vec(first_report::refusal(alloc, &refusal)?),
         })
     }
 }

@@ -1,10 +1,10 @@
 ghost use Rattle.std.specs.Prelude.{◌≡◌, ◌≢◌, ◌+◌, ◌≤◌};
-ghost use Rattle.one_trace.specs.Work.{IsMadeFor};
-ghost use Rattle.stop_rules.specs.Run.{EndsRun};
+ghost use Rattle.first_trace.specs.Work.{IsMadeFor};
+ghost use Rattle.first_stop.specs.Run.{EndsRun};
 
-use chain_model::Job;
-use one_trace::{TraceWork, outcome};
-use stop_rules::{Cause, End, Goal, Tally};
+use first_chain::Job;
+use first_stop::{Cause, End, Goal, Tally};
+use first_trace::{TraceWork, outcome};
 
 /// Draws the traces of a job one by one, in numeric order, up to the first at which the run ends.
 pub fn draw(job: &Job, goal: &Goal, work: &mut TraceWork) -> End

@@ -2,8 +2,8 @@ ghost use Rattle.std.specs.Prelude.{◌≡◌, ◌⊎◌, ◌^◌, ◌-◌, ◌<
 ghost use Rattle.std.specs.Io.KnownBytes.{Appends, Keeps};
 ghost use Rattle.smc_io.specs.Bytes.{Told, AppendsPart};
 ghost use Rattle.smc_io.specs.Counts.{Rose};
-ghost use Rattle.smc_settings.specs.Settings.{settings_of};
-ghost use Rattle.smc_report.specs.Refusals.{refusal_of};
+ghost use Rattle.first_words.specs.Settings.{settings_of};
+ghost use Rattle.first_report.specs.Refusals.{refusal_of};
 ghost use Rattle.smc_top.specs.Outside.{IsCutShort, OpensAtMost};
 ghost use Rattle.smc_top.specs.Report.{IsReport};
 ghost use Rattle.smc_top.specs.declared.report.Report.{Report};
@@ -13,8 +13,8 @@ use crate::observer::Observer;
 use crate::prepare::{Stop, prepare};
 use crate::report::Report;
 use crate::status::Status;
+use first_report::Refusal;
 use smc_io::{Sink, Source, write_all};
-use smc_report::Refusal;
 use std::alloc::Global;
 use std::thread::Threads;
 

@@ -4,7 +4,7 @@ use Rattle.std.specs.List.{list_any}
 use Rattle.std.specs.Str.{bytes_eq}
 use Rattle.std.proofs.lemmas.List.{nil_from_length}
 use Rattle.std.proofs.lemmas.Bool.{false≢true}
-use Rattle.chain_model.specs.declared.chain.Var.{Var}
+use Rattle.first_chain.specs.declared.chain.Var.{Var}
 use Rattle.first_form.specs.Reads.{AreApart}
 use Rattle.first_form.proofs.CheckLemmas.{apart_more, apart_fewer, not_apart, none_apart}
 use Rattle.first_form.proofs.checks.are_apart.Goals as goal

@@ -1,7 +1,7 @@
 -- The nodes so far and what is left are as many as there may be.
 use Rattle.std.proofs.Common.{◌≡◌, ◌+◌, ◌*◌, take, length}
 use Rattle.std.specs.List.{sum_by}
-use Rattle.chain_model.specs.declared.chain.Act.{Act}
+use Rattle.first_chain.specs.declared.chain.Act.{Act}
 use Rattle.first_form.proofs.checks.has_few_nodes.Given as goal
 
 abbrev pub invariant-loop-act : goal.invariant-loop-act

@@ -1,7 +1,7 @@
 -- The weights so far and what is left are the denominator.
 use Rattle.std.proofs.Common.{◌≡◌, ◌+◌, take}
 use Rattle.std.specs.List.{sum_by}
-use Rattle.chain_model.specs.declared.chain.Arm.{Arm}
+use Rattle.first_chain.specs.declared.chain.Arm.{Arm}
 use Rattle.first_form.proofs.checks.sum_to.Given as goal
 
 abbrev pub invariant-loop-arm : goal.invariant-loop-arm

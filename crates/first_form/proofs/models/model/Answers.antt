@@ -1,6 +1,6 @@
 -- A text whose tokens are those of no module, or of one that makes no chain, is that of no chain.
 use Rattle.std.proofs.Common.{◌≡◌, ◌≤◌, None, Some, rules}
-use Rattle.chain_model.specs.WellFormed.{IsWellFormed}
+use Rattle.first_chain.specs.WellFormed.{IsWellFormed}
 use Rattle.first_form.specs.Tokens.{tokens_of}
 use Rattle.first_form.specs.Model.{node_count}
 use Rattle.first_form.specs.Modules.{ReadsModule}

@@ -1,7 +1,7 @@
 -- The text is that of what its tokens ask.
 use Rattle.std.proofs.Common.{◌≡◌, Some, MatchOption, rules, arith, subst}
-use Rattle.chain_model.specs.declared.chain.Var.{Var}
-use Rattle.chain_model.specs.declared.job.Path.{Path}
+use Rattle.first_chain.specs.declared.chain.Var.{Var}
+use Rattle.first_chain.specs.declared.job.Path.{Path}
 use Rattle.first_form.specs.declared.token.Token.{Token}
 use Rattle.std.specs.Prelude.{List}
 use Rattle.first_form.specs.Tokens.{tokens_of}

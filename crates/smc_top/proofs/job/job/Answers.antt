@@ -1,8 +1,8 @@
 -- A text that is outside the form is that of no job.
 use Rattle.std.proofs.Common.{◌≡◌, subst}
-use Rattle.chain_model.specs.declared.job.Job.{Job}
-use Rattle.chain_model.specs.declared.job.Path.{Path}
-use Rattle.chain_model.specs.declared.chain.Chain.{Chain}
+use Rattle.first_chain.specs.declared.job.Job.{Job}
+use Rattle.first_chain.specs.declared.job.Path.{Path}
+use Rattle.first_chain.specs.declared.chain.Chain.{Chain}
 use Rattle.first_form.specs.Model.{IsModel}
 use Rattle.first_form.specs.Property.{IsProperty}
 use Rattle.smc_top.specs.Job.{IsJob}

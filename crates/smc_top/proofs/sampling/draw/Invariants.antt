@@ -1,4 +1,4 @@
-use Rattle.one_trace.specs.Work.{IsMadeFor}
+use Rattle.first_trace.specs.Work.{IsMadeFor}
 use Rattle.smc_top.proofs.DrawnLemmas.{Drawn}
 use Rattle.smc_top.proofs.sampling.draw.Given as goal
 

@@ -1,5 +1,0 @@
-use Rattle.chain_model.proofs.OutcomeLemmas.{one_outcome_at_most}
-use Rattle.chain_model.proofs.laws.one_outcome.Goals as goal
-
-pub returns : goal.returns
-returns c job i a b first second = one_outcome_at_most job i a b first second
