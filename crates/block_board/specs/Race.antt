@@ -31,8 +31,8 @@ Sits views i v = (get_elem? views i ≡ some v) × (0 < all_tickets v)
 
 -- the words and the views of a board of n blocks and w workers after some steps
 pub data Race (n w : ℕ) : List ℕ → List View → Type 0 where
-  -- nothing is claimed, no code is there, the stop is 2^64 - 1, and one seat has all tickets
-  opens : Race n w (0 ∷ no_stop ∷ replicate n 0) (opened n w ∷ [])
+  -- nothing is claimed, no code is there, the stop is 2^64 - 1, and the first seat has all tickets
+  opens : HasRoom n w → Race n w (0 ∷ no_stop ∷ replicate n 0) (opened n w ∷ [])
   -- a seat with a ticket takes the next number, and raises it by one
   claims : (words : List ℕ) (views : List View) (i : ℕ) (v : View) → Race n w words views → Sits views i v → 0 < v.tickets
       → Race n w (slice_set words 0 (next_of words + 1)) (slice_set views i (after_claim v (next_of words)))

@@ -5,7 +5,7 @@ use Rattle.block_board.specs.declared.view.View.{View}
 use Rattle.block_board.specs.declared.view.Size.{Size}
 use Rattle.block_board.specs.Counts.{times, least_of}
 use Rattle.block_board.specs.Steps.{all_tickets, after_claim, after_publish, after_look, after_lower, after_stop, after_next}
-use Rattle.block_board.specs.Race.{HasRoom, Race}
+use Rattle.block_board.specs.Race.{Race}
 use Rattle.block_board.specs.IsSound.{IsSound}
 
 -- a step of a table without slots
@@ -18,7 +18,7 @@ TableSeat = Me (Unit {0}) View
 
 -- the words and views of the table are those of a race
 abbrev pub IsRaceOf : Size → State (Unit {0}) View → Type 0
-IsRaceOf size s = HasRoom size.blocks size.workers × Race size.blocks size.workers s.words s.views
+IsRaceOf size s = Race size.blocks size.workers s.words s.views
 
 -- the seat m has become m', with a view that is u and sound
 abbrev pub Becomes : TableSeat → TableSeat → View → Type 0
