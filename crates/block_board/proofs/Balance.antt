@@ -54,7 +54,7 @@ pub record Turn (n w : ℕ) (words words' : List ℕ) (v u : View) : Type 0 wher
 
 -- a code stays where the word of its block does
 code_stays : (n : ℕ) (words words' : List ℕ) → ((b : ℕ) → b < n → 0 < code_at words b → code_at words' b ≡ code_at words b) → (p : ℕ × ℕ) → IsCode n words p → IsCode n words' p
-code_stays n words words' stable p h = let some : 0 < code_at words p.0 = (let a = h.1 in let b = h.2 in omega arith) in (h.0, h.1 ∙ sym (stable p.0 h.0 some), h.2)
+code_stays n words words' stable p h = let there : 0 < code_at words p.0 = (let a = h.1 in let b = h.2 in omega arith) in (h.0, h.1 ∙ sym (stable p.0 h.0 there), h.2)
 
 -- a view that did not change fits the words still
 pub still : (n w : ℕ) (words words' : List ℕ) (x : View) → stop_of words' ≤ stop_of words

@@ -3,3 +3,7 @@ pub mod Balance
 pub mod StepLemmas
 pub mod ExchangeLemmas
 pub mod RaceLemmas
+pub mod RuleLemmas
+pub mod SoundLemmas
+pub mod TellsLemmas
+pub mod CloseLemmas

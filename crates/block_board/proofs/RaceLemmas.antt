@@ -1,9 +1,9 @@
 -- Each race keeps the balance.
-use Rattle.std.proofs.Common.{◌≡◌, ℕ, zero, suc, ◌+◌, ◌-◌, ◌^◌, ◌<◌, ◌≤◌, min, max, nat_lt, nat_eq, List, [], ◌∷◌, length, get_or, set, replicate, sym, refl, ap, ◌∙◌, subst, arith, zero-le, length-replicate}
+use Rattle.std.proofs.Common.{◌≡◌, ℕ, zero, suc, ◌+◌, ◌-◌, ◌^◌, ◌<◌, ◌≤◌, min, max, nat_lt, nat_eq, List, [], ◌∷◌, length, get_or, set, replicate, sym, refl, ap, ◌∙◌, subst, arith, zero-le}
 use mathlib.Core.Option.{none, some, some-injective, some-ne-none}
 use lib.ListN.{get_elem?}
 use Rattle.std.specs.Prelude.{All}
-use Rattle.std.proofs.lemmas.List.{get_or-replicate}
+use Rattle.std.proofs.lemmas.List.{length-replicate}
 use Rattle.std.proofs.lemmas.List.Elements.{All-nil}
 use Rattle.block_board.specs.declared.view.View.{View}
 use Rattle.block_board.specs.Counts.{no_stop, once_below}
@@ -20,9 +20,9 @@ opening_words n = 0 ∷ no_stop ∷ replicate n 0
 
 -- no code is there
 no_code : (n b : ℕ) → get_or (opening_words n) (2 + b) 0 ≡ 0
-no_code n b = at (2 + b) (omega arith)
+no_code n b = at (2 + b) (let more : 1 < 2 + b = omega arith in more)
   where
-    zeros : (m k : ℕ) → get_or (replicate m 0) k 0 ≡ 0
+    zeros : (m k : ℕ) → get_or {A = ℕ} (replicate m 0) k 0 ≡ 0
     zeros zero k = refl
     zeros (suc m) zero = refl
     zeros (suc m) (suc k) = zeros m k
@@ -41,14 +41,14 @@ opened_fits n w room = record {
   published = All-nil (IsCode n (opening_words n));
   seen = All-nil (IsCode n (opening_words n));
   least = omega arith;
-  idle = λ e. let some = room.some_worker in absurd (omega arith);
+  idle = λ e. let crew = room.some_worker in absurd (omega arith);
 }
 
 -- the balance holds at the start
 opening : (n w : ℕ) → HasRoom n w → Balance n w (opening_words n) (opened n w ∷ [])
 opening n w room = record {
   room = room;
-  long = (let l = length-replicate n 0 in omega arith);
+  long = (let l : length (replicate {A = ℕ} n 0) ≡ n = length-replicate n 0 in omega arith);
   claims = λ x. let o = once_none x (min 0 n) (omega arith) in omega arith;
   count = omega arith;
   codes = λ b h. no_code n b;

@@ -115,7 +115,7 @@ module _ (n w : ℕ) (words : List ℕ) (views : List View) (id : ℕ) (v : View
   look_turn b k below is true t = let f = fitting in
       quiet _ refl refl refl refl refl (record { blocks = f.blocks; workers = f.workers; below = f.below; claimed = f.claimed; published = f.published; seen = f.seen; least = f.least; idle = λ e. absurd (omega arith) })
   look_turn b k below is false t = let f = fitting in
-      let some : k ≢ 0 = eqb-false k 0 t in
+      let filled : k ≢ 0 = eqb-false k 0 t in
       let high : 2 ^ 63 ≤ k = subst (λ (z : ℕ). 2 ^ 63 ≤ z) (sym is) (r.marked b below (omega arith)) in
       quiet _ refl refl refl refl refl (record {
         blocks = f.blocks;
