@@ -182,6 +182,15 @@ some_pair b (p ∷ ps) e = at (nat_eq p.0 b) refl e (some_pair b ps)
     at true is h more = let same : p.0 ≡ b = eqb-true p.0 b is in (p.1, (0, omega arith, ap (λ (z : ℕ). (z, p.1)) same))
     at false is h more = let r = more (omega arith) in let lt = r.1.1 in (r.0, (suc r.1.0, omega arith, r.1.2))
 
+-- a number that stands some times in a list is an element of it
+pub some_time : (x : ℕ) (xs : List ℕ) → 0 < times x xs → Contains xs x
+some_time x [] e = absurd (omega arith)
+some_time x (y ∷ ys) e = at (nat_eq y x) refl e (some_time x ys)
+  where
+    at : (t : Bool) → nat_eq y x ≡ t → 0 < cond t 1 0 + times x ys → (0 < times x ys → Contains ys x) → Contains (y ∷ ys) x
+    at true is h more = (0, omega arith, eqb-true y x is)
+    at false is h more = let r = more (omega arith) in let lt = r.1 in (suc r.0, omega arith, r.2)
+
 -- an element that was put in stands there
 pub set_there : {A : Type 0} (l : List A) (i : ℕ) (a b : A) → get_elem? l i ≡ some a → get_elem? (set l i b) i ≡ some b
 set_there [] i a b e = absurd (some-ne-none a (sym e))

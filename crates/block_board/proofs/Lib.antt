@@ -7,3 +7,4 @@ pub mod RuleLemmas
 pub mod SoundLemmas
 pub mod TellsLemmas
 pub mod CloseLemmas
+pub mod OpenLemmas

@@ -18,8 +18,8 @@ module _ (n w : ℕ) (words : List ℕ) (views : List View) (id : ℕ) (v : View
   fitting = r.each id v at
 
   -- what a seat saw or published is the code of its block
-  pub known_code : (b c : ℕ) → Contains (v.seen ++ v.published) (b, c) → c ≡ code_at words b
-  known_code b c h = (All-contains (IsCode n words) (v.seen ++ v.published) (b, c) (All-append (IsCode n words) v.seen v.published fitting.seen fitting.published) h).1
+  pub known_code : (b c : ℕ) → Contains (v.seen ++ v.published) (b, c) → (c ≡ code_at words b) × (2 ^ 63 ≤ c)
+  known_code b c h = let is = (All-contains (IsCode n words) (v.seen ++ v.published) (b, c) (All-append (IsCode n words) v.seen v.published fitting.seen fitting.published) h) in (is.1, is.2)
 
   -- the next number was not claimed
   pub next_unclaimed : times (next_of words) v.claims ≡ 0
@@ -58,7 +58,7 @@ module _ (n w : ℕ) (words : List ℕ) (views : List View) (id : ℕ) (v : View
         claimed = f.claimed;
         marked = All-weaker (IsCode n words) (λ (p : ℕ × ℕ). 2 ^ 63 ≤ p.1) (λ p h. h.2) v.published f.published;
         seen = All-weaker (IsCode n words) (λ (p : ℕ × ℕ). (p.0 < v.blocks) × (2 ^ 63 ≤ p.1)) (λ p h. ((let lt = h.0 in omega arith), h.2)) v.seen f.seen;
-        one_code = λ b c d hc hd. known_code b c hc ∙ sym (known_code b d hd);
+        one_code = λ b c d hc hd. (known_code b c hc).0 ∙ sym (known_code b d hd).0;
         some_ticket = live;
         most_tickets = (let a = part_le all_tickets views id v at in let t = r.tickets in omega arith);
         all_claimed = λ all spent_one k lt. let past = past_blocks spent_one in all_below (omega arith) k (omega arith);

@@ -86,7 +86,7 @@ looking size slots id me b live below s race _ at _ =
     let r = balance_of n w s.words s.views race in
     let after = looks s.words s.views id v b race (at, live) below in
     let P : ℕ → Type 0 = λ z. (y : View) × (a : Act (Unit {0})) × Valid s.homes me.1 a × IsRaceOf size (stepped s (2 + b) k id me.1 y a)
-        × (Becomes me (y, carried_after me.1 a) (after_look v z k) × ((code : ℕ) → Contains (v.seen ++ v.published) (z, code) → k ≡ code) × (0 < k → 2 ^ 63 ≤ k)) in
+        × (Becomes me (y, carried_after me.1 a) (after_look v z k) × ((code : ℕ) → Contains (v.seen ++ v.published) (z, code) → (k ≡ code) × (0 < k)) × (0 < k → 2 ^ 63 ≤ k)) in
     subst P here (
       u,
       keeps,
@@ -94,7 +94,7 @@ looking size slots id me b live below s race _ at _ =
       same_words n w (2 + b) s.words (set s.views id u) after,
       (
         (refl, refl, sound_after n w s.words s.views id v u at (look_live v b k live) after),
-        λ code h. sym (known_code n w s.words s.views id v r at live b code h),
+        λ code h. let is = known_code n w s.words s.views id v r at live b code h in (sym is.0, (let high = is.1 in let e = is.0 in omega arith)),
         r.marked b below,
       ),
     )

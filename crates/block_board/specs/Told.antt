@@ -39,7 +39,7 @@ publish_tells st m k m' = Becomes m m' (after_publish m.0 (st.word - 2) st.first
 abbrev pub look_tells : TableStep → TableSeat → ℕ → TableSeat → Type 0
 look_tells st m k m' =
     Becomes m m' (after_look m.0 (st.word - 2) k)
-    × ((code : ℕ) → Contains (m.0.seen ++ m.0.published) (st.word - 2, code) → k ≡ code)
+    × ((code : ℕ) → Contains (m.0.seen ++ m.0.published) (st.word - 2, code) → (k ≡ code) × (0 < k))
     × (0 < k → 2 ^ 63 ≤ k)
 
 -- a lower finds some stop
