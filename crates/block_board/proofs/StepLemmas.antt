@@ -161,7 +161,7 @@ module _ (n w : ℕ) (words : List ℕ) (views : List View) (id : ℕ) (v : View
       }
 
 -- what one pair counts at its own block
-here_one : (b c : ℕ) → (cond {A = ℕ} (nat_eq b b) 1 0 ≡ 1) × (cond {A = ℕ} (nat_eq b b) c 0 ≡ c)
+pub here_one : (b c : ℕ) → (cond {A = ℕ} (nat_eq b b) 1 0 ≡ 1) × (cond {A = ℕ} (nat_eq b b) c 0 ≡ c)
 here_one b c = rw (eq-eqb b b refl) (refl, refl)
 
 -- and at another one

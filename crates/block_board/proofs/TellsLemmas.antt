@@ -1,7 +1,8 @@
 -- What the table asks of each step: the race goes on, and the seat is told what the step tells.
-use Rattle.std.proofs.Common.{◌≡◌, ◌≢◌, ℕ, ◌+◌, ◌-◌, ◌%◌, ◌^◌, ◌<◌, ◌≤◌, min, max, List, [], ◌∷◌, ◌++◌, length, get_or, set, replicate, sym, refl, ap, ◌∙◌, subst, arith}
+use Rattle.std.proofs.Common.{◌≡◌, ◌≢◌, ℕ, ◌+◌, ◌-◌, ◌%◌, ◌^◌, ◌<◌, ◌≤◌, min, max, cond, Bool, true, false, nat_lt, List, [], ◌∷◌, ◌++◌, length, get_or, set, replicate, sym, refl, ap, ◌∙◌, subst, arith}
 use mathlib.Core.Option.{none, some}
 use lib.ListN.{get_elem?}
+use borrow.Author.Tests.{ltb-false}
 use Rattle.std.specs.Prelude.{Contains}
 use Rattle.std.proofs.lemmas.List.{set-get_or}
 use Rattle.atomic_table.specs.Table.{Act, keeps, step, stepped, carried_after, Valid, Allows, Splits, Joins}
@@ -13,9 +14,9 @@ use Rattle.block_board.specs.Steps.{all_tickets, after_claim, after_publish, aft
 use Rattle.block_board.specs.Race.{Race, claims, publishes, looks, lowers, stops, reads_next, splits, joins, next_of, stop_of, code_at}
 use Rattle.block_board.specs.IsSound.{IsSound}
 use Rattle.block_board.specs.Told.{TableSeat, IsRaceOf, Becomes, claim_tells, publish_tells, look_tells, lower_tells, stop_tells, next_tells}
-use Rattle.block_board.proofs.CountLemmas.{set_there, lowest_le}
+use Rattle.block_board.proofs.CountLemmas.{set_there, lowest_le, times-append}
 use Rattle.block_board.proofs.Balance.{Balance}
-use Rattle.block_board.proofs.StepLemmas.{next_small, claimed_below}
+use Rattle.block_board.proofs.StepLemmas.{next_small, here_one}
 use Rattle.block_board.proofs.RaceLemmas.{balance_of}
 use Rattle.block_board.proofs.SoundLemmas.{sound, known_code, next_unclaimed, all_below}
 
@@ -30,6 +31,23 @@ same_words n w i words views race = subst (λ (ws : List ℕ). Race n w ws views
 -- a claim keeps some ticket, left or used
 claim_live : (v : View) (k : ℕ) → 0 < v.tickets → 0 < all_tickets (after_claim v k)
 claim_live v k ticket = grind (arith, ticket)
+
+-- a block is claimed once by a claim of it
+claim_adds : (v : View) (k : ℕ) → k < v.blocks → times k v.claims ≡ 0 → times k (after_claim v k).claims ≡ 1
+claim_adds v k below zeros = at (nat_lt k v.blocks) refl
+  where
+    at : (t : Bool) → nat_lt k v.blocks ≡ t
+        → times k (cond t (record v { claims = v.claims ++ k ∷ []; steps = v.steps + 1; last = (0, k) }) (record v { tickets = v.tickets - 1; used = v.used + 1; steps = v.steps + 1; last = (0, k) })).claims ≡ 1
+    at true is = let more = times-append k v.claims (k ∷ []) in let one = here_one k k in omega (arith, more, one.0)
+    at false is = let above = ltb-false k v.blocks is in absurd (omega arith)
+
+-- a claim publishes nothing
+claim_publishes_none : (v : View) (k : ℕ) → (after_claim v k).published ≡ v.published
+claim_publishes_none v k = at (nat_lt k v.blocks)
+  where
+    at : (t : Bool) → (cond t (record v { claims = v.claims ++ k ∷ []; steps = v.steps + 1; last = (0, k) }) (record v { tickets = v.tickets - 1; used = v.used + 1; steps = v.steps + 1; last = (0, k) })).published ≡ v.published
+    at true = refl
+    at false = refl
 
 -- the step of `claim`
 pub claiming : (size : Size) (slots id : ℕ) (me : TableSeat) → 0 < me.0.tickets
@@ -46,6 +64,7 @@ claiming size slots id me ticket s race _ at _ =
     let most = r.room.most_blocks in let crew = r.room.most_workers in
     let raised : (k + 1) % 2 ^ 64 ≡ k + 1 = omega arith in
     let after = claims s.words s.views id v race (at, live) ticket in
+    let fresh = next_unclaimed n w s.words s.views id v r at live in
     let nb : v.blocks ≡ n = f.blocks live in
     let nw : v.workers ≡ w = f.workers live in (
       u,
@@ -54,7 +73,9 @@ claiming size slots id me ticket s race _ at _ =
       subst (λ (m : ℕ). Race n w (set s.words 0 m) (set s.views id u)) (sym raised) after,
       (
         (refl, refl, sound_after n w (set s.words 0 (k + 1)) s.views id v u at (claim_live v k ticket) after),
-        next_unclaimed n w s.words s.views id v r at live,
+        fresh,
+        λ below. claim_adds v k below fresh,
+        ap (pairs_of k) (claim_publishes_none v k) ∙ (let owned = f.claimed k in let zeros : times k v.claims ≡ 0 = fresh in omega arith),
         λ all x lt. all_below n w s.words s.views id v r at live (omega arith) x (omega arith),
       ),
     )

@@ -3,7 +3,7 @@ use Rattle.std.specs.Prelude.{◌≡◌, ℕ, ◌-◌, ◌^◌, ◌<◌, ◌≤�
 use Rattle.atomic_table.specs.Table.{State, Me, Step}
 use Rattle.block_board.specs.declared.view.View.{View}
 use Rattle.block_board.specs.declared.view.Size.{Size}
-use Rattle.block_board.specs.Counts.{times, least_of}
+use Rattle.block_board.specs.Counts.{times, pairs_of, least_of}
 use Rattle.block_board.specs.Steps.{all_tickets, after_claim, after_publish, after_look, after_lower, after_stop, after_next}
 use Rattle.block_board.specs.Race.{Race}
 use Rattle.block_board.specs.IsSound.{IsSound}
@@ -24,11 +24,13 @@ IsRaceOf size s = Race size.blocks size.workers s.words s.views
 abbrev pub Becomes : TableSeat → TableSeat → View → Type 0
 Becomes m m' u = (m'.1 ≡ m.1) × (m'.0 ≡ u) × IsSound m'.0
 
--- a claim finds a number that the seat did not claim before; a seat with all tickets has claimed each block below it
+-- a claim finds a number that the seat did not claim or publish before; a block is claimed once by it, and a seat with all tickets has claimed each block below it
 abbrev pub claim_tells : TableStep → TableSeat → ℕ → TableSeat → Type 0
 claim_tells st m k m' =
     Becomes m m' (after_claim m.0 k)
     × (times k m.0.claims ≡ 0)
+    × (k < m.0.blocks → times k m'.0.claims ≡ 1)
+    × (pairs_of k m'.0.published ≡ 0)
     × (all_tickets m.0 ≡ m.0.workers → (x : ℕ) → x < min k m.0.blocks → times x m.0.claims ≡ 1)
 
 -- a publish writes the code of a block

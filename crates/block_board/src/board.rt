@@ -90,6 +90,8 @@ impl Board {
         ensures here { IsSeatOf self.now seat.new }
         ensures step { seat.new.view ≡ after_claim seat.old.view result }
         ensures fresh { times result seat.old.view.claims ≡ 0 }
+        ensures claimed { result < self.now.blocks → times result seat.new.view.claims ≡ 1 }
+        ensures unpublished { pairs_of result seat.new.view.published ≡ 0 }
         ensures before { all_tickets seat.old.view ≡ self.now.workers → (k : ℕ)
             → k < min result self.now.blocks → times k seat.old.view.claims ≡ 1 }
         ensures sound { IsSound seat.new.view }

@@ -4,12 +4,13 @@
 mod board;
 mod laws;
 mod seat;
-pub mod steps;
-pub mod view;
+mod steps;
+mod view;
 
 pub use board::Board;
 pub use laws::{rule_law, seat_law};
 pub use seat::Seat;
+pub use view::View;
 
-
-
+#[cfg(test)]
+mod tests;

@@ -4,12 +4,9 @@ use Rattle.block_board.specs.declared.view.View.{View}
 use Rattle.block_board.specs.Counts.{least_of, code_of}
 use Rattle.block_board.specs.Steps.{all_tickets}
 use Rattle.block_board.specs.Identity.{BoardFacts, SeatFacts}
-use Rattle.block_board.proofs.OpenLemmas.{same_table, inside_view}
+use Rattle.block_board.proofs.OpenLemmas.{inside_view}
 use Rattle.block_board.proofs.CloseLemmas.{final_stop, final_codes, read_is, copied}
 use Rattle.block_board.proofs.board.Board.close.Goals as goal
-
-pub close_with-closed-requires : goal.close_with-closed-requires
-close_with-closed-requires c = same_table _ _ _ _ _ _ _ c.seat.view_is c.self.view_is c.requires.here
 
 pub loop-b-preserved : goal.loop-b-preserved
 loop-b-preserved c = record {
