@@ -1,5 +1,5 @@
 -- A board opens with the words of a race, and what its words are at the end.
-use Rattle.std.proofs.Common.{◌≡◌, ◌≢◌, ℕ, zero, suc, ◌+◌, ◌-◌, ◌<◌, ◌≤◌, List, [], ◌∷◌, ◌++◌, length, get_or, set, replicate, sym, refl, ap, ◌∙◌, subst, arith}
+use Rattle.std.proofs.Common.{◌≡◌, ℕ, zero, suc, ◌+◌, ◌<◌, List, [], ◌∷◌, ◌++◌, length, get_or, set, replicate, sym, refl, ap, ◌∙◌, subst, arith}
 use mathlib.Core.Option.{some, some-injective, some-ne-none}
 use lib.ListN.{get_elem?}
 use native.Mathlib.Decide.{dec_lt}
@@ -8,13 +8,12 @@ use Rattle.std.proofs.Math.Seq.{get_or-append_seam}
 use Rattle.atomic_table.specs.Table.{Final, Seen}
 use Rattle.block_board.specs.declared.view.View.{View}
 use Rattle.block_board.specs.declared.view.Size.{Size}
-use Rattle.block_board.specs.Counts.{times, pairs_of, code_of, least_of, no_stop}
+use Rattle.block_board.specs.Counts.{code_of, least_of, no_stop}
 use Rattle.block_board.specs.Steps.{all_tickets, opened}
-use Rattle.block_board.specs.Race.{HasRoom, Race, opens, stop_of, code_at}
+use Rattle.block_board.specs.Race.{HasRoom, Race, opens}
 use Rattle.block_board.specs.IsSound.{IsSound}
 use Rattle.block_board.specs.Told.{IsRaceOf}
 use Rattle.block_board.proofs.CountLemmas.{code_sum, sum_is_code, sole}
-use Rattle.block_board.proofs.Balance.{Balance}
 use Rattle.block_board.proofs.RaceLemmas.{opening_words, balance_of}
 use Rattle.block_board.proofs.SoundLemmas.{stop_is_least, sound}
 

@@ -1,12 +1,11 @@
 -- A view is cut in two, and two are put together: the balance stays.
-use Rattle.std.proofs.Common.{◌≡◌, ◌≢◌, ℕ, ◌+◌, ◌-◌, ◌^◌, ◌<◌, ◌≤◌, ⊎_elim, min, max, List, [], ◌∷◌, ◌++◌, length, get_or, set, sym, refl, ap, ◌∙◌, subst, arith, zero-le, length-append}
+use Rattle.std.proofs.Common.{◌≡◌, ◌≢◌, ℕ, ◌+◌, ◌<◌, ◌≤◌, ⊎_elim, List, [], ◌∷◌, ◌++◌, length, set, sym, refl, ◌∙◌, subst, arith, zero-le, length-append}
 use mathlib.Core.Option.{some}
 use lib.ListN.{get_elem?}
-use Rattle.std.specs.Prelude.{All}
 use Rattle.std.proofs.lemmas.List.Elements.{All-append, All-nil}
 use Rattle.atomic_table.proofs.Lists.{at_set, at_snoc, set_else}
 use Rattle.block_board.specs.declared.view.View.{View}
-use Rattle.block_board.specs.Counts.{times, pairs_of, least_of, total, lowest}
+use Rattle.block_board.specs.Counts.{times, least_of, total}
 use Rattle.block_board.specs.Steps.{all_tickets, cut, given, merged, spent}
 use Rattle.block_board.specs.Race.{stop_of}
 use Rattle.block_board.proofs.CountLemmas.{code_sum, total-set, total-push, lowest-set, lowest-push, lowest-unset, times-append, pairs_of-append, code_sum-append, least_of-append, least_of_most, lowest_most, lowest_le, set_there}

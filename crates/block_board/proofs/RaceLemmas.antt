@@ -1,13 +1,12 @@
 -- Each race keeps the balance.
-use Rattle.std.proofs.Common.{◌≡◌, ℕ, zero, suc, ◌+◌, ◌-◌, ◌^◌, ◌<◌, ◌≤◌, min, max, nat_lt, nat_eq, List, [], ◌∷◌, length, get_or, set, replicate, sym, refl, ap, ◌∙◌, subst, arith, zero-le}
-use mathlib.Core.Option.{none, some, some-injective, some-ne-none}
+use Rattle.std.proofs.Common.{◌≡◌, ℕ, zero, suc, ◌+◌, ◌<◌, min, nat_lt, nat_eq, List, [], ◌∷◌, length, get_or, set, replicate, sym, refl, subst, arith, zero-le}
+use mathlib.Core.Option.{some, some-injective, some-ne-none}
 use lib.ListN.{get_elem?}
-use Rattle.std.specs.Prelude.{All}
 use Rattle.std.proofs.lemmas.List.{length-replicate}
 use Rattle.std.proofs.lemmas.List.Elements.{All-nil}
 use Rattle.block_board.specs.declared.view.View.{View}
-use Rattle.block_board.specs.Counts.{no_stop, once_below}
-use Rattle.block_board.specs.Steps.{opened, all_tickets}
+use Rattle.block_board.specs.Counts.{no_stop}
+use Rattle.block_board.specs.Steps.{opened}
 use Rattle.block_board.specs.Race.{HasRoom, Race, opens, claims, publishes, looks, lowers, stops, reads_next, splits, joins, next_of, stop_of, code_at}
 use Rattle.block_board.proofs.CountLemmas.{once_none}
 use Rattle.block_board.proofs.Balance.{IsCode, Fits, Balance, kept}
@@ -26,6 +25,7 @@ no_code n b = at (2 + b) (let more : 1 < 2 + b = omega arith in more)
     zeros zero k = refl
     zeros (suc m) zero = refl
     zeros (suc m) (suc k) = zeros m k
+
     at : (j : ℕ) → 1 < j → get_or (opening_words n) j 0 ≡ 0
     at zero h = absurd (omega arith)
     at (suc zero) h = absurd (omega arith)

@@ -1,14 +1,11 @@
 -- The balance of a race gives the rule.
-use Rattle.std.proofs.Common.{◌≡◌, ◌≢◌, ℕ, ◌+◌, ◌-◌, ◌^◌, ◌<◌, ◌≤◌, ◌⊎◌, inl, inr, min, max, List, [], length, sym, refl, ap, ◌∙◌, subst, arith}
-use mathlib.Core.Option.{some}
-use lib.ListN.{get_elem?}
+use Rattle.std.proofs.Common.{◌≡◌, ◌≢◌, ℕ, ◌<◌, List, sym, ap, subst, arith}
 use native.Mathlib.Decide.{dec_lt}
-use Rattle.std.specs.Prelude.{All, Contains}
+use Rattle.std.specs.Prelude.{Contains}
 use Rattle.std.proofs.lemmas.List.Elements.{All-contains}
 use Rattle.block_board.specs.declared.view.View.{View}
-use Rattle.block_board.specs.Counts.{times, pairs_of, least_of, once_below, total, lowest}
-use Rattle.block_board.specs.Steps.{all_tickets, spent}
-use Rattle.block_board.specs.Race.{Race, Sits, next_of, stop_of, code_at}
+use Rattle.block_board.specs.Steps.{all_tickets}
+use Rattle.block_board.specs.Race.{Race, Sits, code_at}
 use Rattle.block_board.specs.KeepsRule.{KeepsRule}
 use Rattle.block_board.proofs.CountLemmas.{code_sum, some_part, some_pair}
 use Rattle.block_board.proofs.Balance.{IsCode, Fits, Balance}

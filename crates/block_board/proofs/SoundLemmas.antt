@@ -1,13 +1,13 @@
 -- The view of each seat in a race is sound.
-use Rattle.std.proofs.Common.{◌≡◌, ◌≢◌, ℕ, ◌+◌, ◌-◌, ◌^◌, ◌<◌, ◌≤◌, min, max, List, [], ◌++◌, length, sym, refl, ap, ◌∙◌, subst, arith, zero-le}
+use Rattle.std.proofs.Common.{◌≡◌, ℕ, ◌^◌, ◌<◌, ◌≤◌, min, List, ◌++◌, length, sym, ap, ◌∙◌, subst, arith, zero-le}
 use mathlib.Core.Option.{some}
 use lib.ListN.{get_elem?}
 use Rattle.std.specs.Prelude.{All, Contains}
 use Rattle.std.proofs.lemmas.List.Elements.{All-contains, All-append, All-weaker, All-nil}
 use Rattle.block_board.specs.declared.view.View.{View}
-use Rattle.block_board.specs.Counts.{times, pairs_of, least_of, once_below, total, lowest}
+use Rattle.block_board.specs.Counts.{times, least_of}
 use Rattle.block_board.specs.Steps.{all_tickets, given}
-use Rattle.block_board.specs.Race.{Race, Sits, next_of, stop_of, code_at}
+use Rattle.block_board.specs.Race.{next_of, stop_of, code_at}
 use Rattle.block_board.specs.IsSound.{IsSound}
 use Rattle.block_board.proofs.CountLemmas.{part_le, once_le, once_is, once_none, sole, sole_lowest, least_of_most}
 use Rattle.block_board.proofs.Balance.{IsCode, Fits, Balance}

@@ -1,14 +1,13 @@
 -- Each step of one seat is a turn: the words change as its view does.
-use Rattle.std.proofs.Common.{◌≡◌, ◌≢◌, ℕ, zero, suc, ◌+◌, ◌-◌, ◌^◌, ◌<◌, ◌≤◌, min, max, cond, Bool, true, false, nat_lt, nat_eq, List, [], ◌∷◌, ◌++◌, length, get_or, set, sym, refl, ap, ◌∙◌, subst, arith, length-set, length-append, get_or-set_same, get_or-set_other, eq-eqb, ne_eqb}
+use Rattle.std.proofs.Common.{◌≡◌, ◌≢◌, ℕ, ◌+◌, ◌-◌, ◌^◌, ◌<◌, ◌≤◌, min, cond, Bool, true, false, nat_lt, nat_eq, List, [], ◌∷◌, ◌++◌, length, get_or, set, sym, refl, ap, ◌∙◌, subst, arith, length-set, length-append, get_or-set_same, get_or-set_other, eq-eqb, ne_eqb}
 use mathlib.Core.Option.{some}
 use lib.ListN.{get_elem?}
 use native.Mathlib.Decide.{ℕ_discrete}
 use borrow.Author.Tests.{ltb-true, ltb-false, eqb-false}
-use Rattle.std.specs.Prelude.{All}
-use Rattle.std.proofs.lemmas.List.Elements.{All-append, All-push}
+use Rattle.std.proofs.lemmas.List.Elements.{All-push}
 use Rattle.block_board.specs.declared.view.View.{View}
-use Rattle.block_board.specs.Counts.{times, pairs_of, least_of, once_below, total, lowest}
-use Rattle.block_board.specs.Steps.{all_tickets, after_claim, after_publish, after_look, after_lower, after_stop, after_next}
+use Rattle.block_board.specs.Counts.{times, pairs_of, least_of, once_below}
+use Rattle.block_board.specs.Steps.{all_tickets, after_publish, after_lower, after_stop, after_next}
 use Rattle.block_board.specs.Race.{next_of, stop_of, code_at}
 use Rattle.block_board.proofs.CountLemmas.{code_sum, part_le, times-append, pairs_of-append, code_sum-append, least_of-append, least_of_most, lowest_most, once_mono, once_more, once_le, no_code_sum, below_n, sole, total_le}
 use Rattle.block_board.proofs.Balance.{IsCode, Fits, Balance, Turn, still}

@@ -1,5 +1,5 @@
 -- What the table asks of each step: the race goes on, and the seat is told what the step tells.
-use Rattle.std.proofs.Common.{◌≡◌, ◌≢◌, ℕ, ◌+◌, ◌-◌, ◌%◌, ◌^◌, ◌<◌, ◌≤◌, min, max, cond, Bool, true, false, nat_lt, List, [], ◌∷◌, ◌++◌, length, get_or, set, replicate, sym, refl, ap, ◌∙◌, subst, arith}
+use Rattle.std.proofs.Common.{◌≡◌, ℕ, ◌+◌, ◌-◌, ◌%◌, ◌^◌, ◌<◌, ◌≤◌, min, cond, Bool, true, false, nat_lt, List, [], ◌∷◌, ◌++◌, get_or, set, sym, refl, ap, ◌∙◌, subst, arith}
 use mathlib.Core.Option.{none, some}
 use lib.ListN.{get_elem?}
 use borrow.Author.Tests.{ltb-false}
@@ -15,7 +15,6 @@ use Rattle.block_board.specs.Race.{Race, claims, publishes, looks, lowers, stops
 use Rattle.block_board.specs.IsSound.{IsSound}
 use Rattle.block_board.specs.Told.{TableSeat, IsRaceOf, Becomes, claim_tells, publish_tells, look_tells, lower_tells, stop_tells, next_tells}
 use Rattle.block_board.proofs.CountLemmas.{set_there, lowest_le, times-append}
-use Rattle.block_board.proofs.Balance.{Balance}
 use Rattle.block_board.proofs.StepLemmas.{next_small, here_one}
 use Rattle.block_board.proofs.RaceLemmas.{balance_of}
 use Rattle.block_board.proofs.SoundLemmas.{sound, known_code, next_unclaimed, all_below}
@@ -88,7 +87,7 @@ publishing size slots id me b code live mine fresh marked s race _ at _ =
     let here : b ≡ 2 + b - 2 = omega arith in
     let u : View = after_publish me.0 (2 + b - 2) code in
     let after = subst (λ (z : ℕ). Race n w (set s.words (2 + b) code) (set s.views id (after_publish me.0 z code))) here
-        (publishes s.words s.views id me.0 b code race (at, live) mine fresh marked) in
+    (publishes s.words s.views id me.0 b code race (at, live) mine fresh marked) in
     (u, keeps, tt, after, (refl, refl, sound_after n w (set s.words (2 + b) code) s.views id me.0 u at live after))
 
 -- a look leaves the tickets
@@ -107,7 +106,7 @@ looking size slots id me b live below s race _ at _ =
     let r = balance_of n w s.words s.views race in
     let after = looks s.words s.views id v b race (at, live) below in
     let P : ℕ → Type 0 = λ z. (y : View) × (a : Act (Unit {0})) × Valid s.homes me.1 a × IsRaceOf size (stepped s (2 + b) k id me.1 y a)
-        × (Becomes me (y, carried_after me.1 a) (after_look v z k) × ((code : ℕ) → Contains (v.seen ++ v.published) (z, code) → (k ≡ code) × (0 < k)) × (0 < k → 2 ^ 63 ≤ k)) in
+    × (Becomes me (y, carried_after me.1 a) (after_look v z k) × ((code : ℕ) → Contains (v.seen ++ v.published) (z, code) → (k ≡ code) × (0 < k)) × (0 < k → 2 ^ 63 ≤ k)) in
     subst P here (
       u,
       keeps,

@@ -1,5 +1,5 @@
 -- The rule that the words and views of each race keep.
-use Rattle.std.specs.Prelude.{◌≡◌, ◌≢◌, ℕ, ◌+◌, ◌-◌, ◌^◌, ◌<◌, ◌≤◌, min, max, List, Contains}
+use Rattle.std.specs.Prelude.{◌≡◌, ◌≢◌, ℕ, ◌-◌, ◌^◌, ◌<◌, ◌≤◌, min, max, List, Contains}
 use Rattle.block_board.specs.declared.view.View.{View}
 use Rattle.block_board.specs.Counts.{times, pairs_of, least_of, once_below, total, lowest}
 use Rattle.block_board.specs.Steps.{all_tickets}

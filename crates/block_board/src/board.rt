@@ -37,8 +37,8 @@ impl Model for Board {
     ghost view = { λ b. record { id = b.table.shared.table_id; blocks = b.blocks; workers = b.workers } };
 
     ghost invariant = { λ b. (b.table.shared.table_id.words ≡ b.blocks + 2) × (b.table.shared.table_id.slots ≡ 0)
-      × (b.table.shared.key.blocks ≡ b.blocks) × (b.table.shared.key.workers ≡ b.workers)
-      × (b.blocks ≤ vec_capacity b.codes) × (b.codes.items ≡ []) × (b.blocks ≤ 1024) };
+        × (b.table.shared.key.blocks ≡ b.blocks) × (b.table.shared.key.workers ≡ b.workers)
+        × (b.blocks ≤ vec_capacity b.codes) × (b.codes.items ≡ []) × (b.blocks ≤ 1024) };
 }
 
 impl Board {
@@ -96,7 +96,8 @@ impl Board {
             → k < min result self.now.blocks → times k seat.old.view.claims ≡ 1 }
         ensures sound { IsSound seat.new.view }
     {
-        self.table.shared.fetch_add::<Claim>(&mut seat.inner, NEXT, 1)
+        let words = &self.table.shared;
+        words.fetch_add::<Claim>(&mut seat.inner, NEXT, 1)
     }
 
     /// Publishes the code of a block that the seat has claimed and not published before.
@@ -109,9 +110,8 @@ impl Board {
         ensures step { seat.new.view ≡ after_publish seat.old.view block code }
         ensures sound { IsSound seat.new.view }
     {
-        self.table
-            .shared
-            .store::<Publish>(&mut seat.inner, CODES + block as usize, code)
+        let words = &self.table.shared;
+        words.store::<Publish>(&mut seat.inner, CODES + block as usize, code)
     }
 
     /// The code of a block, if it is there. It is the one that the seat published or saw before, if it did.
@@ -126,10 +126,8 @@ impl Board {
             → result ≡ Some code }
         ensures sound { IsSound seat.new.view }
     {
-        let code = self
-            .table
-            .shared
-            .load::<Look>(&mut seat.inner, CODES + block as usize);
+        let words = &self.table.shared;
+        let code = words.load::<Look>(&mut seat.inner, CODES + block as usize);
         if code == 0 { None } else { Some(code) }
     }
 
@@ -142,10 +140,8 @@ impl Board {
         ensures lowered { seat.new.view.last.1 ≤ least_of seat.old.view.lowered }
         ensures sound { IsSound seat.new.view }
     {
-        let _old = self
-            .table
-            .shared
-            .fetch_min::<Lower>(&mut seat.inner, STOP, block);
+        let words = &self.table.shared;
+        let _old = words.fetch_min::<Lower>(&mut seat.inner, STOP, block);
     }
 
     /// The stop: at most what the seat read there before, and at most each number to which it lowered it.
@@ -157,7 +153,8 @@ impl Board {
         ensures lowered { result ≤ least_of seat.old.view.lowered }
         ensures sound { IsSound seat.new.view }
     {
-        self.table.shared.load::<Stop>(&mut seat.inner, STOP)
+        let words = &self.table.shared;
+        words.load::<Stop>(&mut seat.inner, STOP)
     }
 
     /// Hands over so many of the seat's tickets to a new seat. The seat keeps at least one.
@@ -186,9 +183,7 @@ impl Board {
         ensures sound { IsSound seat.new.view }
     {
         let Seat { inner } = other;
-        self.table
-            .shared
-            .join_seat::<Unite>(&mut seat.inner, inner);
+        self.table.shared.join_seat::<Unite>(&mut seat.inner, inner);
         self.read_next(&mut seat.inner);
     }
 
@@ -217,7 +212,11 @@ impl Board {
     }
 
     /// Hands over tickets, as many as the type says, since the table takes the two new views from a type.
-    fn hand_over<A: Amount>(&self, inner: &mut TableSeat<(), View>, tickets: u64) -> TableSeat<(), View>
+    fn hand_over<A: Amount>(
+        &self,
+        inner: &mut TableSeat<(), View>,
+        tickets: u64,
+    ) -> TableSeat<(), View>
         requires here { inner.old.table_id ≡ self.now.id }
         requires amount { tickets ≡ A.amount }
         requires some { 1 ≤ tickets }

@@ -1,4 +1,4 @@
-use Rattle.std.proofs.Common.{rules, arith, ap, sym, ◌∙◌, ◌≡◌, ◌+◌, ◌<◌, ℕ, get_or}
+use Rattle.std.proofs.Common.{rules, arith, ap, sym, ◌∙◌, ◌≡◌, ◌+◌, ℕ, get_or}
 use Rattle.std.specs.Mem.Slots.{slots_items}
 use Rattle.block_board.specs.declared.view.View.{View}
 use Rattle.block_board.specs.Counts.{least_of, code_of}
@@ -22,7 +22,7 @@ pub returns-clause-stop : goal.returns-clause-stop
 returns-clause-stop c =
     let crew = c.self.invariant.3 in
     let whole : all_tickets c.seat.inside.inner.me.0 ≡ c.self.inside.table.shared.key.workers =
-        inside_view (λ (v : View). all_tickets v ≡ c.args.self.workers) _ _ _ c.seat.view_is c.requires.whole ∙ (sym (ap (λ (b : BoardFacts). b.workers) c.self.view_is) ∙ sym crew) in
+    inside_view (λ (v : View). all_tickets v ≡ c.args.self.workers) _ _ _ c.seat.view_is c.requires.whole ∙ (sym (ap (λ (b : BoardFacts). b.workers) c.self.view_is) ∙ sym crew) in
     sym (read_is (slots_items c.close_with-closed.result.words) 1 c.word-stop.result c.word-stop.ensures)
     ∙ (final_stop c.self.inside.table.shared.key c.seat.inside.inner.id c.seat.inside.inner.me.0 _ _ c.close_with-closed.ensures.values.2 c.seat.invariant.1.some_ticket whole
     ∙ ap (λ (s : SeatFacts). least_of s.view.lowered) c.seat.view_is)
@@ -31,7 +31,7 @@ pub returns-clause-codes : goal.returns-clause-codes
 returns-clause-codes c b below =
     let crew = c.self.invariant.3 in
     let whole : all_tickets c.seat.inside.inner.me.0 ≡ c.self.inside.table.shared.key.workers =
-        inside_view (λ (v : View). all_tickets v ≡ c.args.self.workers) _ _ _ c.seat.view_is c.requires.whole ∙ (sym (ap (λ (b : BoardFacts). b.workers) c.self.view_is) ∙ sym crew) in
+    inside_view (λ (v : View). all_tickets v ≡ c.args.self.workers) _ _ _ c.seat.view_is c.requires.whole ∙ (sym (ap (λ (b : BoardFacts). b.workers) c.self.view_is) ∙ sym crew) in
     let size = ap (λ (b : BoardFacts). b.blocks) c.self.view_is in
     let end = c.loop-b.auto.b-end in
     c.loop-b.invariant.codes b (omega arith)

@@ -1,4 +1,4 @@
-use Rattle.std.proofs.Common.{◌≡◌, ℕ, ◌+◌, ◌-◌, ◌<◌, ◌++◌, Some, arith, ap, sym, ◌∙◌, subst}
+use Rattle.std.proofs.Common.{◌≡◌, ℕ, ◌+◌, ◌-◌, ◌++◌, Some, arith, ap, ◌∙◌, subst}
 use Rattle.std.specs.Prelude.{Contains}
 use Rattle.block_board.specs.declared.view.View.{View}
 use Rattle.block_board.specs.Identity.{BoardFacts}
@@ -23,6 +23,6 @@ returns-clause-known c code known =
     let is = c.load-code.ensures.2.1 code (subst (λ (b : ℕ). Contains (c.seat.inside.inner.me.0.seen ++ c.seat.inside.inner.me.0.published) (b, code)) here inside) in
     let filled = is.1 in
     elim c.if-code-eq0.branch [
-      then-code-eq0 w ↦ absurd (let none = w.if-code-eq0.true in omega arith)
+      | then-code-eq0 w ↦ absurd (let none = w.if-code-eq0.true in omega arith)
       | else-code-eq0 w ↦ w.result-is ∙ ap (λ (z : ℕ). Some z) is.0
     ]

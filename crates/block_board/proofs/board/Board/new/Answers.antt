@@ -1,4 +1,4 @@
-use Rattle.std.proofs.Common.{rules, ◌≡◌, ℕ, ◌+◌, List, replicate, set, ap, ◌∙◌, arith}
+use Rattle.std.proofs.Common.{rules, ◌≡◌, ℕ, ◌+◌, List, replicate, set, ap, ◌∙◌}
 use Rattle.block_board.specs.Counts.{no_stop}
 use Rattle.block_board.proofs.CloseLemmas.{opens_with}
 use Rattle.block_board.proofs.board.Board.new.Goals as goal

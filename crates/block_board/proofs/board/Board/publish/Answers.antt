@@ -1,4 +1,4 @@
-use Rattle.std.proofs.Common.{◌≡◌, ℕ, ◌+◌, ◌-◌, ◌<◌, arith, ap, ◌∙◌}
+use Rattle.std.proofs.Common.{◌≡◌, ◌<◌, arith}
 use Rattle.block_board.specs.declared.view.View.{View}
 use Rattle.block_board.specs.Counts.{times, pairs_of}
 use Rattle.block_board.proofs.OpenLemmas.{same_table, inside_view, claimed_block}
