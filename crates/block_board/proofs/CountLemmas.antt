@@ -1,5 +1,5 @@
 -- Counts and sums over a list of which one element changes.
-use Rattle.std.proofs.Common.{◌≡◌, ℕ, zero, suc, ◌+◌, ◌<◌, ◌≤◌, min, Bool, true, false, cond, nat_eq, List, [], ◌∷◌, ◌++◌, set, sym, refl, ap, arith, zero-le}
+use Rattle.std.proofs.Common.{◌≡◌, ◌≢◌, ℕ, zero, suc, ◌+◌, ◌<◌, ◌≤◌, min, Bool, true, false, cond, nat_eq, List, [], ◌∷◌, ◌++◌, set, sym, refl, ap, arith, zero-le}
 use Rattle.std.proofs.lemmas.Bool.Decides.{nat_tests}
 use mathlib.Core.Option.{some, some-injective, some-ne-none}
 use lib.ListN.{get_elem?}
@@ -25,6 +25,14 @@ module _ {A : Type 0} (f : A → ℕ) where
   part_le [] i v e = absurd (some-ne-none v (sym e))
   part_le (x ∷ xs) zero v e = let is : f x ≡ f v = ap f (some-injective x v e) in omega arith
   part_le (x ∷ xs) (suc i) v e = let r = part_le xs i v e in omega arith
+
+  -- two parts are at most the sum
+  pub parts_le : (l : List A) (i j : ℕ) (v u : A) → get_elem? l i ≡ some v → get_elem? l j ≡ some u → i ≢ j → f v + f u ≤ total f l
+  parts_le [] i j v u e d h = absurd (some-ne-none v (sym e))
+  parts_le (x ∷ xs) zero zero v u e d h = absurd (h refl)
+  parts_le (x ∷ xs) zero (suc j) v u e d h = let is : f x ≡ f v = ap f (some-injective x v e) in let r = part_le xs j u d in omega arith
+  parts_le (x ∷ xs) (suc i) zero v u e d h = let is : f x ≡ f u = ap f (some-injective x u d) in let r = part_le xs i v e in omega arith
+  parts_le (x ∷ xs) (suc i) (suc j) v u e d h = let r = parts_le xs i j v u e d (λ (s : i ≡ j). h (ap suc s)) in omega arith
 
   -- a new element adds its number
   pub total-push : (l : List A) (w : A) → total f (l ++ w ∷ []) ≡ total f l + f w

@@ -1,13 +1,13 @@
 -- The balance of a race gives the rule.
 use Rattle.std.proofs.Common.{◌≡◌, ◌≢◌, ℕ, ◌<◌, List, sym, ap, subst, arith}
-use native.Mathlib.Decide.{dec_lt}
+use native.Mathlib.Decide.{dec_lt, ℕ_discrete}
 use Rattle.std.specs.Prelude.{Contains}
 use Rattle.std.proofs.lemmas.List.Elements.{All-contains}
 use Rattle.block_board.specs.declared.view.View.{View}
 use Rattle.block_board.specs.Steps.{all_tickets}
 use Rattle.block_board.specs.Race.{Race, Sits, code_at}
 use Rattle.block_board.specs.KeepsRule.{KeepsRule}
-use Rattle.block_board.proofs.CountLemmas.{code_sum, some_part, some_pair}
+use Rattle.block_board.proofs.CountLemmas.{code_sum, some_part, some_pair, parts_le}
 use Rattle.block_board.proofs.Balance.{IsCode, Fits, Balance}
 use Rattle.block_board.proofs.RaceLemmas.{balance_of}
 
@@ -31,6 +31,14 @@ published_by n w words views r b below there =
     let is = All-contains (IsCode n words) v.published (b, pair.0) f.published pair.1 in
     (part.0, v, (part.2, lives n w words v b f part.3), subst (λ (c : ℕ). Contains v.published (b, c)) is.1 pair.1)
 
+-- a seat with all tickets is the only one that sits
+one_alone : (n w : ℕ) (words : List ℕ) (views : List View) → Balance n w words views → (i j : ℕ) (v u : View) → Sits views i v → Sits views j u → all_tickets v ≡ w → i ≡ j
+one_alone n w words views r i j v u here there all = at (ℕ_discrete i j)
+  where
+    at : Dec (i ≡ j) → i ≡ j
+    at (yes e) = e
+    at (no h) = let both = parts_le all_tickets views i j v u here.0 there.0 h in let t = r.tickets in let live = there.1 in absurd (omega arith)
+
 -- the rule
 pub rule_of : (n w : ℕ) (words : List ℕ) (views : List View) → Race n w words views → KeepsRule n w words views
 rule_of n w words views race =
@@ -45,4 +53,6 @@ rule_of n w words views race =
       least = λ i v sits. (r.each i v sits.0).least;
       used = (let u = r.used in omega arith);
       tickets = r.tickets;
+      idle = λ i v at. (r.each i v at).idle;
+      alone = one_alone n w words views r;
     }

@@ -1,8 +1,10 @@
 -- The rule that the words and views of each race keep.
 use Rattle.std.specs.Prelude.{◌≡◌, ◌≢◌, ℕ, ◌-◌, ◌^◌, ◌<◌, ◌≤◌, min, max, List, Contains}
+use mathlib.Core.Option.{some}
+use lib.ListN.{get_elem?}
 use Rattle.block_board.specs.declared.view.View.{View}
 use Rattle.block_board.specs.Counts.{times, pairs_of, least_of, once_below, total, lowest}
-use Rattle.block_board.specs.Steps.{all_tickets}
+use Rattle.block_board.specs.Steps.{all_tickets, spent}
 use Rattle.block_board.specs.Race.{next_of, stop_of, code_at, Sits}
 
 -- the rule: who claimed which block, which code is where, and what the stop and the tickets are
@@ -25,3 +27,7 @@ pub record KeepsRule (n w : ℕ) (words : List ℕ) (views : List View) : Type 0
   pub used : total (λ v. v.used) views ≡ max (next_of words) n - n
   -- there is a ticket for each worker
   pub tickets : total all_tickets views ≡ w
+  -- a view without a ticket, left or used, is that of a seat that was joined into another
+  pub idle : (i : ℕ) (v : View) → get_elem? views i ≡ some v → all_tickets v ≡ 0 → v ≡ spent
+  -- so a seat that has all tickets is the only one left
+  pub alone : (i j : ℕ) (v u : View) → Sits views i v → Sits views j u → all_tickets v ≡ w → i ≡ j

@@ -30,6 +30,7 @@ pub struct Board {
 
 impl Model for Board {
     ghost use Rattle.std.specs.Prelude.{◌≡◌, ◌+◌, ◌≤◌, [], vec_capacity};
+    ghost use Rattle.block_board.specs.Race.{HasRoom};
     ghost use Rattle.block_board.specs.Identity.{BoardFacts};
 
     ghost Value = { BoardFacts };
@@ -38,7 +39,7 @@ impl Model for Board {
 
     ghost invariant = { λ b. (b.table.shared.table_id.words ≡ b.blocks + 2) × (b.table.shared.table_id.slots ≡ 0)
         × (b.table.shared.key.blocks ≡ b.blocks) × (b.table.shared.key.workers ≡ b.workers)
-        × (b.blocks ≤ vec_capacity b.codes) × (b.codes.items ≡ []) × (b.blocks ≤ 1024) };
+        × (b.blocks ≤ vec_capacity b.codes) × (b.codes.items ≡ []) × HasRoom b.blocks b.workers };
 }
 
 impl Board {
@@ -70,14 +71,16 @@ impl Board {
 
     /// The number of blocks.
     pub fn blocks(&self) -> u64
-        ensures { result ≡ self.now.blocks }
+        ensures value { result ≡ self.now.blocks }
+        ensures few { (1 ≤ result) × (result ≤ 1024) }
     {
         self.blocks
     }
 
     /// The number of workers.
     pub fn workers(&self) -> u64
-        ensures { result ≡ self.now.workers }
+        ensures value { result ≡ self.now.workers }
+        ensures few { (1 ≤ result) × (result ≤ 64) }
     {
         self.workers
     }
