@@ -1,4 +1,5 @@
--- A race: any number of seats make steps in any order. Word 0 is the next number, word 1 the stop, and word 2 + b the code of block b.
+-- A race: any number of seats make steps in any order.
+-- Word 0 is the next number, word 1 the stop, and word 2 + b the code of block b.
 use Rattle.std.specs.Prelude.{◌≡◌, ◌≢◌, ℕ, ◌+◌, ◌^◌, ◌<◌, ◌≤◌, min, List, [], ◌∷◌, ◌++◌, replicate, slice_index, slice_set}
 use mathlib.Core.Option.{some}
 use lib.ListN.{get_elem?}
@@ -34,16 +35,20 @@ pub data Race (n w : ℕ) : List ℕ → List View → Type 0 where
   -- nothing is claimed, no code is there, the stop is 2^64 - 1, and the first seat has all tickets
   opens : HasRoom n w → Race n w (0 ∷ no_stop ∷ replicate n 0) (opened n w ∷ [])
   -- a seat with a ticket takes the next number, and raises it by one
-  claims : (words : List ℕ) (views : List View) (i : ℕ) (v : View) → Race n w words views → Sits views i v → 0 < v.tickets
+  claims : (words : List ℕ) (views : List View) (i : ℕ) (v : View) → Race n w words views → Sits views i v
+      → 0 < v.tickets
       → Race n w (slice_set words 0 (next_of words + 1)) (slice_set views i (after_claim v (next_of words)))
   -- a seat writes the code, with bit 63 set, of a block that it claimed and did not publish before
-  publishes : (words : List ℕ) (views : List View) (i : ℕ) (v : View) (b code : ℕ) → Race n w words views → Sits views i v → 0 < times b v.claims → pairs_of b v.published ≡ 0 → 2 ^ 63 ≤ code
+  publishes : (words : List ℕ) (views : List View) (i : ℕ) (v : View) (b code : ℕ) → Race n w words views
+      → Sits views i v → 0 < times b v.claims → pairs_of b v.published ≡ 0 → 2 ^ 63 ≤ code
       → Race n w (slice_set words (2 + b) code) (slice_set views i (after_publish v b code))
   -- a seat reads the code of a block
-  looks : (words : List ℕ) (views : List View) (i : ℕ) (v : View) (b : ℕ) → Race n w words views → Sits views i v → b < n
+  looks : (words : List ℕ) (views : List View) (i : ℕ) (v : View) (b : ℕ) → Race n w words views → Sits views i v
+      → b < n
       → Race n w words (slice_set views i (after_look v b (code_at words b)))
   -- a seat makes the stop the lesser of itself and a number
-  lowers : (words : List ℕ) (views : List View) (i : ℕ) (v : View) (number : ℕ) → Race n w words views → Sits views i v
+  lowers : (words : List ℕ) (views : List View) (i : ℕ) (v : View) (number : ℕ) → Race n w words views
+      → Sits views i v
       → Race n w (slice_set words 1 (min (stop_of words) number)) (slice_set views i (after_lower v number (stop_of words)))
   -- a seat reads the stop
   stops : (words : List ℕ) (views : List View) (i : ℕ) (v : View) → Race n w words views → Sits views i v
@@ -52,8 +57,10 @@ pub data Race (n w : ℕ) : List ℕ → List View → Type 0 where
   reads_next : (words : List ℕ) (views : List View) (i : ℕ) (v : View) → Race n w words views → Sits views i v
       → Race n w words (slice_set views i (after_next v (next_of words)))
   -- a seat hands over some of its tickets, but not all, to a new seat
-  splits : (words : List ℕ) (views : List View) (i : ℕ) (v : View) (t : ℕ) → Race n w words views → Sits views i v → 1 ≤ t → t < v.tickets
+  splits : (words : List ℕ) (views : List View) (i : ℕ) (v : View) (t : ℕ) → Race n w words views → Sits views i v
+      → 1 ≤ t → t < v.tickets
       → Race n w words (slice_set views i (cut v t) ++ given v t ∷ [])
   -- a seat takes in another one, which is spent
-  joins : (words : List ℕ) (views : List View) (i j : ℕ) (v u : View) → Race n w words views → Sits views i v → Sits views j u → j ≢ i
+  joins : (words : List ℕ) (views : List View) (i j : ℕ) (v u : View) → Race n w words views → Sits views i v
+      → Sits views j u → j ≢ i
       → Race n w words (slice_set (slice_set views i (merged v u)) j spent)

@@ -9,7 +9,19 @@ all_tickets v = v.tickets + v.used
 
 -- the view of the first seat: it has a ticket for each worker, and has done nothing
 abbrev pub opened : ℕ → ℕ → View
-opened n w = record { blocks = n; workers = w; tickets = w; used = 0; claims = []; published = []; seen = []; lowered = []; least = no_stop; steps = 0; last = (0, 0) }
+opened n w = record {
+  blocks = n;
+  workers = w;
+  tickets = w;
+  used = 0;
+  claims = [];
+  published = [];
+  seen = [];
+  lowered = [];
+  least = no_stop;
+  steps = 0;
+  last = (0, 0);
+}
 
 -- claim found k: a block joins the claims, and a number past the blocks uses a ticket
 abbrev pub after_claim : View → ℕ → View
@@ -45,7 +57,7 @@ cut v t = record v { tickets = v.tickets - t }
 
 -- the view of a new seat with t tickets, of the same board
 abbrev pub given : View → ℕ → View
-given v t = record { blocks = v.blocks; workers = v.workers; tickets = t; used = 0; claims = []; published = []; seen = []; lowered = []; least = no_stop; steps = 0; last = (0, 0) }
+given v t = record (opened v.blocks v.workers) { tickets = t }
 
 -- what two views did and saw together
 abbrev pub merged : View → View → View
@@ -61,7 +73,7 @@ merged v u = record v {
 
 -- the view of a seat that was joined into another: nothing is left
 abbrev pub spent : View
-spent = record { blocks = 0; workers = 0; tickets = 0; used = 0; claims = []; published = []; seen = []; lowered = []; least = no_stop; steps = 0; last = (0, 0) }
+spent = opened 0 0
 
 -- split found the next number k: t tickets are handed over
 abbrev pub after_split : View → ℕ → ℕ → View

@@ -1,4 +1,5 @@
--- The rule of the table below a board, and what each of its steps tells: the new view, that it is sound, and what the old value says.
+-- The rule of the table below a board, and what each of its steps tells:
+-- the new view, that it is sound, and what the old value says.
 use Rattle.std.specs.Prelude.{◌≡◌, ℕ, ◌-◌, ◌^◌, ◌<◌, ◌≤◌, min, ◌++◌, Contains}
 use Rattle.atomic_table.specs.Table.{State, Me, Step}
 use Rattle.block_board.specs.declared.view.View.{View}
@@ -24,7 +25,8 @@ IsRaceOf size s = Race size.blocks size.workers s.words s.views
 abbrev pub Becomes : TableSeat → TableSeat → View → Type 0
 Becomes m m' u = (m'.1 ≡ m.1) × (m'.0 ≡ u) × IsSound m'.0
 
--- a claim finds a number that the seat did not claim or publish before; a block is claimed once by it, and a seat with all tickets has claimed each block below it
+-- a claim finds a number that the seat did not claim or publish before; a block is then claimed once;
+-- a seat with all tickets has claimed each block below it
 abbrev pub claim_tells : TableStep → TableSeat → ℕ → TableSeat → Type 0
 claim_tells st m k m' =
     Becomes m m' (after_claim m.0 k)
