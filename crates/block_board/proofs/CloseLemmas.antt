@@ -1,5 +1,5 @@
 -- A board opens with the words of a race, and what its words are at the end.
-use Rattle.std.proofs.Common.{◌≡◌, ℕ, zero, suc, ◌+◌, ◌<◌, List, [], ◌∷◌, ◌++◌, length, get_or, set, replicate, sym, refl, ap, ◌∙◌, subst, arith}
+use Rattle.std.proofs.Common.{◌≡◌, ℕ, zero, suc, ◌+◌, ◌<◌, List, [], ◌∷◌, ◌++◌, length, get_or, set, replicate, sym, ap, ◌∙◌, subst, arith}
 use mathlib.Core.Option.{some, some-injective, some-ne-none}
 use lib.ListN.{get_elem?}
 use native.Mathlib.Decide.{dec_lt}
@@ -11,7 +11,6 @@ use Rattle.block_board.specs.declared.view.Size.{Size}
 use Rattle.block_board.specs.Counts.{code_of, least_of, no_stop}
 use Rattle.block_board.specs.Steps.{all_tickets, opened}
 use Rattle.block_board.specs.Race.{HasRoom, Race, opens}
-use Rattle.block_board.specs.IsSound.{IsSound}
 use Rattle.block_board.specs.Told.{IsRaceOf}
 use Rattle.block_board.proofs.CountLemmas.{code_sum, sum_is_code, sole}
 use Rattle.block_board.proofs.RaceLemmas.{opening_words, balance_of}
@@ -24,10 +23,6 @@ opening_is n = ap (λ (m : ℕ). set (replicate m 0) 1 no_stop) (let e : n + 2 �
 -- a race opens with them
 pub opens_with : (n w : ℕ) (words : List ℕ) → HasRoom n w → words ≡ set (replicate (n + 2) 0) 1 no_stop → Race n w words (opened n w ∷ [])
 opens_with n w words room e = subst (λ (ws : List ℕ). Race n w ws (opened n w ∷ [])) (sym (e ∙ opening_is n)) (opens room)
-
--- and the first view is sound
-pub opened_sound : (n w : ℕ) → HasRoom n w → IsSound (opened n w)
-opened_sound n w room = sound n w (opening_words n) (opened n w ∷ []) 0 (opened n w) (balance_of n w (opening_words n) (opened n w ∷ []) (opens room)) refl (let crew = room.some_worker in omega arith)
 
 -- at the end the stop is the least of what the seat with all tickets lowered
 pub final_stop : (size : Size) (id : ℕ) (v : View) (ws : List ℕ) (xs : List (Unit {0})) → Final (Seen (IsRaceOf size) id v) ws xs → 0 < all_tickets v → all_tickets v ≡ size.workers

@@ -4,8 +4,7 @@ use Rattle.std.proofs.lemmas.Bool.Decides.{nat_tests}
 use mathlib.Core.Option.{some, some-injective, some-ne-none}
 use lib.ListN.{get_elem?}
 use borrow.Author.Tests.{eqb-true}
-use Rattle.std.specs.Prelude.{All, Contains}
-use Rattle.std.proofs.lemmas.List.Elements.{All-cons, All-nil}
+use Rattle.std.specs.Prelude.{Contains}
 use Rattle.block_board.specs.Counts.{total, lowest, times, pairs_of, code_of, least_of, once_below}
 
 -- the codes of block b, added up
@@ -204,7 +203,3 @@ pub set_there : {A : Type 0} (l : List A) (i : ℕ) (a b : A) → get_elem? l i 
 set_there [] i a b e = absurd (some-ne-none a (sym e))
 set_there (x ∷ xs) zero a b e = refl
 set_there (x ∷ xs) (suc i) a b e = set_there xs i a b e
-
--- what holds of one thing holds of each element of its list
-pub All-one : {X : Type 0} (P : X → Type 0) (x : X) → P x → All P (x ∷ [])
-All-one P x p = All-cons P x [] p (All-nil P)

@@ -1,12 +1,12 @@
 -- The view of each seat in a race is sound.
-use Rattle.std.proofs.Common.{◌≡◌, ℕ, ◌^◌, ◌<◌, ◌≤◌, min, List, ◌++◌, length, sym, ap, ◌∙◌, subst, arith, zero-le}
+use Rattle.std.proofs.Common.{◌≡◌, ℕ, ◌^◌, ◌<◌, ◌≤◌, min, List, ◌++◌, length, sym, ap, ◌∙◌, subst, arith}
 use mathlib.Core.Option.{some}
 use lib.ListN.{get_elem?}
 use Rattle.std.specs.Prelude.{All, Contains}
-use Rattle.std.proofs.lemmas.List.Elements.{All-contains, All-append, All-weaker, All-nil}
+use Rattle.std.proofs.lemmas.List.Elements.{All-contains, All-append, All-weaker}
 use Rattle.block_board.specs.declared.view.View.{View}
 use Rattle.block_board.specs.Counts.{times, least_of}
-use Rattle.block_board.specs.Steps.{all_tickets, given}
+use Rattle.block_board.specs.Steps.{all_tickets}
 use Rattle.block_board.specs.Race.{next_of, stop_of, code_at}
 use Rattle.block_board.specs.IsSound.{IsSound}
 use Rattle.block_board.proofs.CountLemmas.{part_le, once_le, once_is, once_none, sole, sole_lowest, least_of_most}
@@ -64,19 +64,3 @@ module _ (n w : ℕ) (words : List ℕ) (views : List View) (id : ℕ) (v : View
         all_claimed = λ all spent_one k lt. let past = past_blocks spent_one in all_below (omega arith) k (omega arith);
         lowest = λ all. let is = stop_is_least (omega arith) in let le = f.least in omega arith;
       }
-
--- so is a new one, with no more tickets than there are workers
-pub given_sound : (v : View) (t : ℕ) → IsSound v → 1 ≤ t → t < v.tickets → IsSound (given v t)
-given_sound v t s some_t more = record {
-  blocks = All-nil (λ (k : ℕ). k < v.blocks);
-  once = λ k. zero-le;
-  few = zero-le;
-  claimed = λ b. zero-le;
-  marked = All-nil (λ (p : ℕ × ℕ). 2 ^ 63 ≤ p.1);
-  seen = All-nil (λ (p : ℕ × ℕ). (p.0 < v.blocks) × (2 ^ 63 ≤ p.1));
-  one_code = λ b c d hc hd. absurd (let lt = hc.1 in omega arith);
-  some_ticket = omega arith;
-  most_tickets = (let m = s.most_tickets in omega arith);
-  all_claimed = λ all none. absurd (omega arith);
-  lowest = λ all. omega arith;
-}
