@@ -1,0 +1,10 @@
+pub mod CountLemmas
+pub mod Balance
+pub mod StepLemmas
+pub mod ExchangeLemmas
+pub mod RaceLemmas
+pub mod RuleLemmas
+pub mod SoundLemmas
+pub mod TellsLemmas
+pub mod CloseLemmas
+pub mod OpenLemmas
