@@ -120,18 +120,17 @@ fn words_are_refused_by_name(rt: HostRuntime) {
 #[test]
 fn tokens_have_their_places_in_the_grammar(rt: HostRuntime) -> Result<(), Fail> {
     let alloc = rt.alloc();
-    assert_eq!(rt; Line::Sum.operator(&Kind::Dash), Some(Op::Sub));
-    assert_eq!(rt; Line::Product.operator(&Kind::Dash), None);
-    assert_eq!(rt; Line::Relation.inner(), Line::Sum);
-    assert!(rt; Line::Unary.is_sign(&Kind::Dash));
-    assert!(rt; Line::Equality.is_chain() && !Line::Negation.is_chain());
-    assert!(rt; Line::Negation.is_prefix() && !Line::Choice.is_prefix());
+    assert_eq!(rt; Precedence::Sum.operator(&Kind::Dash), Some(Op::Sub));
+    assert_eq!(rt; Precedence::Product.operator(&Kind::Dash), None);
+    assert_eq!(rt; Precedence::Relation.inner(), Precedence::Sum);
+    assert!(rt; Precedence::Unary.is_sign(&Kind::Dash));
+    assert!(rt; Precedence::Equality.is_chain() && !Precedence::Negation.is_chain());
+    assert!(rt; Precedence::Negation.is_prefix() && !Precedence::Conditional.is_prefix());
     assert_eq!(rt; function(&Kind::Max), Some(Func::Max));
     assert_eq!(rt;
         function(&Kind::Name(Text::from_bytes(alloc, b"ceil")?)),
         Some(Func::Ceil)
     );
     assert!(rt; takes(Func::Min, 3) && takes(Func::Pow, 1) && !takes(Func::Floor, 1));
-    assert!(rt; may_take(Func::Pow, 0) && may_take(Func::Max, 9) && !may_take(Func::Ceil, 1));
     Ok(())
 }

@@ -1,6 +1,6 @@
 use Rattle.std.proofs.Common.{◌≡◌, ◌-◌, ◌^◌, take, map, min, sum}
-use Rattle.prism_syntax.specs.Nodes.{node_count}
-use Rattle.prism_syntax.proofs.size.+nodes.Given as goal
+use Rattle.prism_syntax.specs.NodeCount.{node_count}
+use Rattle.prism_syntax.proofs.node_count.+nodes.Given as goal
 
 -- the nodes of the trees so far
 abbrev pub invariant-nodes_of_all-loop-expr : goal.invariant-nodes_of_all-loop-expr

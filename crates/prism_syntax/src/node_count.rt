@@ -1,5 +1,5 @@
 ghost use Rattle.std.specs.Prelude.{◌≡◌, ◌-◌, ◌^◌, min, map, sum};
-ghost use Rattle.prism_syntax.specs.Nodes.{node_count};
+ghost use Rattle.prism_syntax.specs.NodeCount.{node_count};
 
 use crate::expressions::Expr;
 

@@ -30,9 +30,9 @@ pub enum PathText {
     Until(Expr, Time, Expr),
 }
 
-/// A step bound: `<` where it is strict, else `<=`.
+/// The steps that a path formula looks at.
 #[derive(Debug, Drop)]
-pub struct Time {
-    pub strict: bool,
-    pub last: Expr,
+pub enum Time {
+    /// Up to a last step: `<` where it is strict, else `<=`.
+    Upto { strict: bool, last: Expr },
 }
