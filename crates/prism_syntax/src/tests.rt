@@ -1,4 +1,5 @@
 use super::*;
+use indexmap::IndexMap;
 use smc_num::{Frac, Text};
 use sqlite_items::{Boxed, Items};
 use std::alloc::{AllocError, Global};
@@ -60,19 +61,110 @@ fn trees_have_a_node_for_each_part(rt: HostRuntime) -> Result<(), Fail> {
     Ok(())
 }
 
-#[test]
-fn deep_trees_are_copied_counted_and_let_go(rt: HostRuntime) -> Result<(), Fail> {
-    let alloc = rt.alloc();
+/// The tree of the deepest text that the limits allow: `x` behind 64 times 64 `!`, 64 `-` and `(`, in
+/// the last branch of 1,024 conditionals.
+fn deepest(alloc: Global) -> Result<Expr, AllocError> {
     let mut tree = name(alloc, b"x")?;
-    for _ in 0..12_000 {
-        tree = Expr::Not(Boxed::new(alloc, tree)?);
+    for _ in 0..64 {
+        tree = Expr::Paren(Boxed::new(alloc, tree)?);
+        for _ in 0..64 {
+            tree = Expr::Minus(Boxed::new(alloc, tree)?);
+        }
+        for _ in 0..64 {
+            tree = Expr::Not(Boxed::new(alloc, tree)?);
+        }
     }
-    for _ in 0..1_000 {
+    for _ in 0..1_024 {
         tree = choice(alloc, name(alloc, b"a")?, name(alloc, b"b")?, tree)?;
     }
+    Ok(tree)
+}
+
+#[test]
+fn the_deepest_tree_is_copied_counted_replaced_and_let_go(rt: HostRuntime) -> Result<(), Fail> {
+    let alloc = rt.alloc();
+    let tree = deepest(alloc)?;
     let again = tree.copy(alloc)?;
-    assert_eq!(rt; nodes(&tree), 15_001);
-    assert_eq!(rt; nodes(&again), 15_001);
+    let mut table = IndexMap::new(alloc);
+    let paren = Expr::Paren(Boxed::new(alloc, name(alloc, b"y")?)?);
+    table.insert(Text::from_bytes(alloc, b"x")?, paren)?;
+    let replaced = again.replace(alloc, &table)?;
+    assert_eq!(rt; (nodes(&tree), depth_of_parens(&tree)), (11_329, 64));
+    assert_eq!(rt; (nodes(&replaced), depth_of_parens(&replaced)), (11_330, 65));
+    Ok(())
+}
+
+/// `module m x:[0..y] init y; [a] y -> y:(x'=y); endmodule module n=m[x=z] endmodule` after
+/// `const double c=y; formula f=y;`
+fn model(alloc: Global) -> Result<ModelText, AllocError> {
+    let mut sets = Items::new(alloc);
+    sets.push((Text::from_bytes(alloc, b"x")?, name(alloc, b"y")?))?;
+    let mut branches = Items::new(alloc);
+    branches.push(Branch {
+        weight: Some(name(alloc, b"y")?),
+        sets,
+    })?;
+    let mut commands = Items::new(alloc);
+    commands.push(Command {
+        action: Some(Text::from_bytes(alloc, b"a")?),
+        guard: name(alloc, b"y")?,
+        branches,
+    })?;
+    let mut vars = Items::new(alloc);
+    vars.push(Variable {
+        name: Text::from_bytes(alloc, b"x")?,
+        range: Some((name(alloc, b"z")?, name(alloc, b"y")?)),
+        init: Some(name(alloc, b"y")?),
+    })?;
+    let mut pairs = Items::new(alloc);
+    pairs.push((Text::from_bytes(alloc, b"x")?, Text::from_bytes(alloc, b"z")?))?;
+    let mut modules = Items::new(alloc);
+    modules.push(Module::Written {
+        name: Text::from_bytes(alloc, b"m")?,
+        vars,
+        commands,
+    })?;
+    modules.push(Module::Renamed {
+        name: Text::from_bytes(alloc, b"n")?,
+        source: Text::from_bytes(alloc, b"m")?,
+        pairs,
+    })?;
+    let mut consts = Items::new(alloc);
+    consts.push(ConstText {
+        name: Text::from_bytes(alloc, b"c")?,
+        sort: SortWord::Double,
+        value: Some(name(alloc, b"y")?),
+    })?;
+    let mut formulas = Items::new(alloc);
+    formulas.push(Named {
+        name: Text::from_bytes(alloc, b"f")?,
+        body: name(alloc, b"y")?,
+    })?;
+    Ok(ModelText {
+        consts,
+        globals: Items::new(alloc),
+        formulas,
+        modules,
+        labels: Items::new(alloc),
+    })
+}
+
+#[test]
+fn a_model_is_copied(rt: HostRuntime) -> Result<(), Fail> {
+    let alloc = rt.alloc();
+    let tree = model(alloc)?;
+    let again = tree.copy(alloc)?;
+    let first = format!(in alloc; "{tree:?}")?;
+    let second = format!(in alloc; "{again:?}")?;
+    assert_eq!(rt; first.as_bytes(), second.as_bytes());
+    let flat = FlatText {
+        consts: again.consts,
+        globals: again.globals,
+        formulas: again.formulas,
+        modules: Items::new(alloc),
+        labels: again.labels,
+    };
+    assert_eq!(rt; flat.copy(alloc)?.consts.as_slice().len(), 1);
     Ok(())
 }
 
@@ -131,6 +223,8 @@ fn tokens_have_their_places_in_the_grammar(rt: HostRuntime) -> Result<(), Fail> 
         function(&Kind::Name(Text::from_bytes(alloc, b"ceil")?)),
         Some(Func::Ceil)
     );
+    assert_eq!(rt; Op::Iff.token(), Kind::Equivalent);
+    assert_eq!(rt; Func::Pow.spelling(), b"pow".as_slice());
     assert!(rt; takes(Func::Min, 3) && takes(Func::Pow, 1) && !takes(Func::Floor, 1));
     Ok(())
 }
