@@ -94,56 +94,47 @@ fn the_deepest_tree_is_copied_counted_replaced_and_let_go(rt: HostRuntime) -> Re
     Ok(())
 }
 
-/// `module m x:[0..y] init y; [a] y -> y:(x'=y); endmodule module n=m[x=z] endmodule` after
-/// `const double c=y; formula f=y;`
-fn model(alloc: Global) -> Result<ModelText, AllocError> {
+/// `[x] x -> x:(x'=x);`
+fn command(alloc: Global) -> Result<Command, AllocError> {
     let mut sets = Items::new(alloc);
-    sets.push((Text::from_bytes(alloc, b"x")?, name(alloc, b"y")?))?;
+    sets.push((Text::from_bytes(alloc, b"x")?, name(alloc, b"x")?))?;
     let mut branches = Items::new(alloc);
     branches.push(Branch {
-        weight: Some(name(alloc, b"y")?),
+        weight: Some(name(alloc, b"x")?),
         sets,
     })?;
-    let mut commands = Items::new(alloc);
-    commands.push(Command {
-        action: Some(Text::from_bytes(alloc, b"a")?),
-        guard: name(alloc, b"y")?,
+    Ok(Command {
+        action: Some(Text::from_bytes(alloc, b"x")?),
+        guard: name(alloc, b"x")?,
         branches,
-    })?;
-    let mut vars = Items::new(alloc);
-    vars.push(Variable {
+    })
+}
+
+/// `x:[x..x];`
+fn variable(alloc: Global) -> Result<Variable, AllocError> {
+    Ok(Variable {
         name: Text::from_bytes(alloc, b"x")?,
-        range: Some((name(alloc, b"z")?, name(alloc, b"y")?)),
-        init: Some(name(alloc, b"y")?),
-    })?;
-    let mut pairs = Items::new(alloc);
-    pairs.push((Text::from_bytes(alloc, b"x")?, Text::from_bytes(alloc, b"z")?))?;
+        range: Some((name(alloc, b"x")?, name(alloc, b"x")?)),
+        init: None,
+    })
+}
+
+/// `dtmc module x x:[x..x]; [x] x -> x:(x'=x); endmodule`
+fn model(alloc: Global) -> Result<ModelText, AllocError> {
+    let mut vars = Items::new(alloc);
+    vars.push(variable(alloc)?)?;
+    let mut commands = Items::new(alloc);
+    commands.push(command(alloc)?)?;
     let mut modules = Items::new(alloc);
     modules.push(Module::Written {
-        name: Text::from_bytes(alloc, b"m")?,
+        name: Text::from_bytes(alloc, b"x")?,
         vars,
         commands,
     })?;
-    modules.push(Module::Renamed {
-        name: Text::from_bytes(alloc, b"n")?,
-        source: Text::from_bytes(alloc, b"m")?,
-        pairs,
-    })?;
-    let mut consts = Items::new(alloc);
-    consts.push(ConstText {
-        name: Text::from_bytes(alloc, b"c")?,
-        sort: SortWord::Double,
-        value: Some(name(alloc, b"y")?),
-    })?;
-    let mut formulas = Items::new(alloc);
-    formulas.push(Named {
-        name: Text::from_bytes(alloc, b"f")?,
-        body: name(alloc, b"y")?,
-    })?;
     Ok(ModelText {
-        consts,
+        consts: Items::new(alloc),
         globals: Items::new(alloc),
-        formulas,
+        formulas: Items::new(alloc),
         modules,
         labels: Items::new(alloc),
     })
@@ -157,14 +148,6 @@ fn a_model_is_copied(rt: HostRuntime) -> Result<(), Fail> {
     let first = format!(in alloc; "{tree:?}")?;
     let second = format!(in alloc; "{again:?}")?;
     assert_eq!(rt; first.as_bytes(), second.as_bytes());
-    let flat = FlatText {
-        consts: again.consts,
-        globals: again.globals,
-        formulas: again.formulas,
-        modules: Items::new(alloc),
-        labels: again.labels,
-    };
-    assert_eq!(rt; flat.copy(alloc)?.consts.as_slice().len(), 1);
     Ok(())
 }
 
