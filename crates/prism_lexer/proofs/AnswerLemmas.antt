@@ -5,19 +5,21 @@ use Rattle.std.proofs.lemmas.List.Elements.{All-nil, All-cons}
 use Rattle.std.specs.declared.vec.Vec.{Vec}
 use Rattle.std.specs.declared.alloc.Global.{Global}
 use Rattle.prism_syntax.specs.declared.tokens.Token.{Token}
-use Rattle.prism_syntax.specs.Tokens.{IsFirstToken, Reads}
+use Rattle.prism_syntax.specs.Tokens.{IsFirstToken, Reads, AreTokensOf}
 use Rattle.prism_syntax.specs.Tokens as read
-use Rattle.prism_syntax.specs.Formed.{IsFormedKind}
-use Rattle.prism_lexer.specs.declared.faults.LexFault.{LexFault}
-use Rattle.prism_lexer.specs.declared.faults.LexFault.TheVariants.{TooMany, BadByte, NumberTooWide, OutOfMemory}
-use Rattle.prism_lexer.specs.Shape.{BeginsNoToken}
-use Rattle.prism_lexer.specs.Answers.{IsCutInto, HasTooMany, HasBadByte, HasWideNumber, Tells, RanOut, ComesWhere, Gives, seen}
+use Rattle.prism_syntax.specs.WellFormed.{IsFormedKind}
+use Rattle.prism_lexer.specs.declared.fault.LexFault.{LexFault}
+use Rattle.prism_lexer.specs.declared.fault.LexFault.TheVariants.{TooMany, BadByte, NumberTooWide, OutOfMemory}
+use Rattle.prism_syntax.specs.Outcome.{ComesWhere, IsFaultOf}
+use Rattle.prism_lexer.specs.Outcome.{BeginsNoToken, IsCutInto, HasTooMany, HasBadByte, HasWideNumber, IsOutOfMemory, Gives}
+use Rattle.prism_lexer.specs.Steps.{Tells, seen}
 use Rattle.prism_lexer.proofs.ReadLemmas.{nil_no_token, stuck_none, stuck_end, stuck_wide, stop_same, further}
 
--- no two of the answers hold of one text
+-- a text is cut into one list of tokens
+pub one_list : (text : List ℕ) (a b : List Token) → AreTokensOf text a → AreTokensOf text b → a ≡ b
+one_list text a b x y = (stop_same text a b x.end y.end [] [] x.read stuck_end y.read stuck_end).tokens
 
-ok_ok : (text : List ℕ) (a b : List Token) → IsCutInto text a → IsCutInto text b → a ≡ b
-ok_ok text a b x y = (stop_same text a b x.cut.end y.cut.end [] [] x.cut.read stuck_end y.cut.read stuck_end).tokens
+-- no two of the answers hold of one text
 
 ok_bad : (text : List ℕ) (a : List Token) (at : ℕ) → IsCutInto text a → HasBadByte text at → ⊥
 ok_bad text a at x y = y.some (sym (stop_same text a y.tokens x.cut.end at [] y.rest x.cut.read stuck_end y.read (stuck_none y.rest y.clear y.none)).rests)
@@ -80,7 +82,7 @@ says_formed text (Ok v) told = reads_formed 0 text v.items told.cut.end [] told.
 says_formed text (Err fault) told = tt
 
 pub says_all : (text : List ℕ) (r : Result (Vec Token Global) LexFault) → Tells text (seen r) → (ts : List Token) → IsCutInto text ts → Gives r ts
-says_all text (Ok v) told ts are = ok_ok text v.items ts told are
+says_all text (Ok v) told ts are = one_list text v.items ts told.cut are.cut
 says_all text (Err TooMany) told ts are = many_ok text ts told are
 says_all text (Err (BadByte at)) told ts are = ok_bad text ts at are told
 says_all text (Err (NumberTooWide at)) told ts are = ok_wide text ts at are told
@@ -89,30 +91,30 @@ says_all text (Err (OutOfMemory fault)) told ts are = tt
 told_at : (text : List ℕ) (r : Result (Vec Token Global) LexFault) (fault : LexFault) → Tells text (seen r) → r ≡ Err fault → Tells text (Err fault)
 told_at text r fault told same = subst (λ q. Tells text (seen q)) same told
 
-pub says_too_many : (text : List ℕ) (r : Result (Vec Token Global) LexFault) → Tells text (seen r) → ComesWhere r TooMany (HasTooMany text)
+pub says_too_many : (text : List ℕ) (r : Result (Vec Token Global) LexFault) → Tells text (seen r) → ComesWhere IsOutOfMemory r (Err TooMany) (HasTooMany text)
 says_too_many text r told = record { only = told_at text r TooMany told; always = always r told }
   where
-    always : (r : Result (Vec Token Global) LexFault) → Tells text (seen r) → HasTooMany text → (r ≡ Err TooMany) ⊎ RanOut r
+    always : (r : Result (Vec Token Global) LexFault) → Tells text (seen r) → HasTooMany text → (r ≡ Err TooMany) ⊎ IsFaultOf IsOutOfMemory r
     always (Ok v) told fact = absurd (many_ok text v.items fact told)
     always (Err TooMany) told fact = inl refl
     always (Err (BadByte at)) told fact = absurd (many_bad text at fact told)
     always (Err (NumberTooWide at)) told fact = absurd (many_wide text at fact told)
     always (Err (OutOfMemory fault)) told fact = inr tt
 
-pub says_bad_byte : (text : List ℕ) (r : Result (Vec Token Global) LexFault) → Tells text (seen r) → (at : ℕ) → ComesWhere r (BadByte at) (HasBadByte text at)
+pub says_bad_byte : (text : List ℕ) (r : Result (Vec Token Global) LexFault) → Tells text (seen r) → (at : ℕ) → ComesWhere IsOutOfMemory r (Err (BadByte at)) (HasBadByte text at)
 says_bad_byte text r told at = record { only = told_at text r (BadByte at) told; always = always r told }
   where
-    always : (r : Result (Vec Token Global) LexFault) → Tells text (seen r) → HasBadByte text at → (r ≡ Err (BadByte at)) ⊎ RanOut r
+    always : (r : Result (Vec Token Global) LexFault) → Tells text (seen r) → HasBadByte text at → (r ≡ Err (BadByte at)) ⊎ IsFaultOf IsOutOfMemory r
     always (Ok v) told fact = absurd (ok_bad text v.items at told fact)
     always (Err TooMany) told fact = absurd (many_bad text at told fact)
     always (Err (BadByte place)) told fact = inl (ap (λ p. Err (BadByte p)) (bad_bad text place at told fact))
     always (Err (NumberTooWide place)) told fact = absurd (bad_wide text at place fact told)
     always (Err (OutOfMemory fault)) told fact = inr tt
 
-pub says_too_wide : (text : List ℕ) (r : Result (Vec Token Global) LexFault) → Tells text (seen r) → (at : ℕ) → ComesWhere r (NumberTooWide at) (HasWideNumber text at)
+pub says_too_wide : (text : List ℕ) (r : Result (Vec Token Global) LexFault) → Tells text (seen r) → (at : ℕ) → ComesWhere IsOutOfMemory r (Err (NumberTooWide at)) (HasWideNumber text at)
 says_too_wide text r told at = record { only = told_at text r (NumberTooWide at) told; always = always r told }
   where
-    always : (r : Result (Vec Token Global) LexFault) → Tells text (seen r) → HasWideNumber text at → (r ≡ Err (NumberTooWide at)) ⊎ RanOut r
+    always : (r : Result (Vec Token Global) LexFault) → Tells text (seen r) → HasWideNumber text at → (r ≡ Err (NumberTooWide at)) ⊎ IsFaultOf IsOutOfMemory r
     always (Ok v) told fact = absurd (ok_wide text v.items at told fact)
     always (Err TooMany) told fact = absurd (many_wide text at told fact)
     always (Err (BadByte place)) told fact = absurd (bad_wide text place at told fact)

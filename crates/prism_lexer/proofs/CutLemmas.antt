@@ -8,17 +8,18 @@ use Rattle.prism_syntax.specs.declared.tokens.Kind.{Kind}
 use Rattle.prism_syntax.specs.declared.tokens.Token.{Token}
 use Rattle.prism_syntax.specs.Tokens.{IsToken, IsFirstToken, Reads}
 use Rattle.prism_syntax.specs.Tokens as read
-use Rattle.prism_lexer.specs.declared.lexemes.Lexeme.{Lexeme}
-use Rattle.prism_lexer.specs.Shape.{IsFront}
-use Rattle.prism_lexer.specs.Blanks.{Passes, StandsClear}
-use Rattle.prism_lexer.specs.declared.faults.LexFault.{LexFault}
-use Rattle.prism_lexer.specs.declared.faults.LexFault.TheVariants.{TooMany, BadByte, NumberTooWide, OutOfMemory}
-use Rattle.prism_lexer.specs.Answers.{token_limit, IsCutInto, IsNext, IsCutting, Refuses, Tells}
+use Rattle.prism_lexer.specs.declared.lexeme.Lexeme.{Lexeme}
+use Rattle.prism_lexer.specs.Outcome.{StandsClear, token_limit, IsCutInto}
+use Rattle.prism_lexer.specs.Lexemes.{IsLongestLexeme}
+use Rattle.prism_lexer.specs.Blanks.{Passes}
+use Rattle.prism_lexer.specs.Steps.{IsNext, IsCutting, Refuses, Tells}
+use Rattle.prism_lexer.specs.declared.fault.LexFault.{LexFault}
+use Rattle.prism_lexer.specs.declared.fault.LexFault.TheVariants.{TooMany, BadByte, NumberTooWide, OutOfMemory}
 use Rattle.prism_lexer.proofs.FormLemmas.{token_some}
 use Rattle.prism_lexer.proofs.BlankLemmas.{reads_more}
 
 -- what is found at the front of a text and has a kind is the longest token
-pub first_token : (text : List ℕ) (form : Lexeme) (n : ℕ) (kind : Option Kind) → IsFront text form n → IsToken (take n text) kind → IsFirstToken text (take n text) kind (drop n text)
+pub first_token : (text : List ℕ) (form : Lexeme) (n : ℕ) (kind : Option Kind) → IsLongestLexeme text form n → IsToken (take n text) kind → IsFirstToken text (take n text) kind (drop n text)
 first_token text form n kind front is =
     let split : take n text ++ drop n text ≡ text = take-append-drop n text in
     let size : length (take n text) ≡ n = length-take-le n text front.within in

@@ -7,11 +7,12 @@ use Rattle.std.proofs.lemmas.Bool.{cases_Bool, cond-true, cond-false, and_parts}
 use Rattle.std.proofs.lemmas.Bool.Decides.{nat_tests}
 use Rattle.smc_num.specs.Spelling.{Written, decimal, IsSpelled, whole, point, bar}
 use Rattle.prism_syntax.specs.declared.tokens.Kind.{Kind}
-use Rattle.prism_syntax.specs.Spelling.{spelling_of, is_symbol, begins_word, words, symbols}
-use Rattle.prism_syntax.specs.Tokens.{is_word, IsWord, goes_on_word, IsToken, is_blank}
+use Rattle.prism_syntax.specs.Spelling.{spelling_of, is_symbol, symbolic, begins_word}
+use Rattle.prism_syntax.specs.SpellingTables.{one_letter_words, four_letter_words, five_letter_words, middle_words, short_words, long_words, one_byte_symbols, two_byte_symbols, three_byte_symbols}
+use Rattle.prism_syntax.specs.Tokens.{is_word, IsWord, IsFree, IsNotReserved, goes_on_word, IsToken, is_blank}
 use Rattle.prism_syntax.specs.Tokens as token
-use Rattle.prism_syntax.proofs.SpellingLemmas.{each_word, each_symbol}
-use Rattle.prism_lexer.specs.Shape.{IsQuoted}
+use Rattle.prism_syntax.proofs.TableLemmas.{all_words, all_symbols, each_word, each_symbol}
+use Rattle.prism_lexer.specs.Lexemes.{IsQuoted}
 use Rattle.prism_lexer.proofs.NumberLemmas.{IsNumberText, digits_tested}
 
 -- what the first bytes of a text show
@@ -38,18 +39,19 @@ pub data Form (bytes : List ℕ) : Type 0 where
   number : IsNumberText bytes → Form bytes
   symbol : (kind : Kind) → is_symbol kind ≡ true → spelling_of kind ≡ Some bytes → Form bytes
 
--- each reserved word is a word
-word_spelling : Option (List ℕ) → Bool
-word_spelling (Some bytes) = is_word bytes
-word_spelling None = false
-
-words_are : list_all (λ kind. word_spelling (spelling_of kind)) words ≡ true
-unfolding words spelling_of word_spelling
+words_are : all_words (λ row. is_word row.0) ≡ true
+unfolding one_letter_words four_letter_words five_letter_words middle_words short_words long_words
 words_are = refl
 
+-- each reserved word is a word
 pub reserved_word : (kind : Kind) (bytes : List ℕ) → is_symbol kind ≡ false → spelling_of kind ≡ Some bytes → is_word bytes ≡ true
-unfolding word_spelling
-reserved_word kind bytes is_false spelled = each_word word_spelling words_are kind bytes is_false spelled
+reserved_word kind bytes is_false spelled = each_word is_word words_are kind bytes is_false spelled
+
+-- a word that is not reserved is no spelling
+pub free_word : (text : List ℕ) → IsWord text → IsNotReserved text → IsFree text
+free_word [] is free kind spelled = absurd (cc)
+free_word (c ∷ cs) is free kind spelled =
+    free kind (record { spelling = spelled; word = ap symbolic spelled ∙ ap not (and_parts _ _ is).0 })
 
 -- the form of each token
 pub form_of : (bytes : List ℕ) (kind : Option Kind) → IsToken bytes kind → Form bytes
@@ -94,17 +96,16 @@ number_head bytes rest (inl numeral) = numeral_head bytes rest numeral
 number_head bytes rest (inr real) = spelled_head bytes (decimal real.digits real.power) real.digits real.power real.spelled refl rest
 
 -- the first bytes of a symbol: no letter, no `"`, no digit, no blank, and a point only before another
-symbol_start : Option (List ℕ) → Bool
-symbol_start None = false
-symbol_start (Some []) = false
-symbol_start (Some (c ∷ cs)) = (not (begins_word c) && not (c == 34)) && ((not (is_ascii_digit c) && not (is_blank c)) && (not (c == 46) || begins_point cs))
+symbol_start : List ℕ → Bool
+symbol_start [] = false
+symbol_start (c ∷ cs) = (not (begins_word c) && not (c == 34)) && ((not (is_ascii_digit c) && not (is_blank c)) && (not (c == 46) || begins_point cs))
   where
     begins_point : List ℕ → Bool
     begins_point [] = false
     begins_point (d ∷ ds) = d == 46
 
-symbols_start : list_all (λ kind. symbol_start (spelling_of kind)) symbols ≡ true
-unfolding symbols spelling_of symbol_start
+symbols_start : all_symbols (λ row. symbol_start row.0) ≡ true
+unfolding one_byte_symbols two_byte_symbols three_byte_symbols symbol_start
 symbols_start = refl
 
 not_true : (b : Bool) → not b ≡ true → b ≡ false
@@ -116,7 +117,7 @@ no_number : (c d : ℕ) → is_ascii_digit c ≡ false → (not (c == 46) || (d 
 no_number c d no_digit points = grind (arith, nat_tests)
 
 -- a symbol begins with nothing of the other forms, whatever follows it
-symbol_begins : (bytes rest : List ℕ) → symbol_start (Some bytes) ≡ true → head_of (bytes ++ rest) ≡ other
+symbol_begins : (bytes rest : List ℕ) → symbol_start bytes ≡ true → head_of (bytes ++ rest) ≡ other
 unfolding symbol_start
 symbol_begins [] rest start = absurd (cc)
 symbol_begins (c ∷ []) rest start =
@@ -161,7 +162,7 @@ blank_head c cs blank =
     neither false true d no_a no_b = cc
     neither false false d no_a no_b = refl
 
-symbol_no_blank : (bytes : List ℕ) (c : ℕ) (cs : List ℕ) → symbol_start (Some bytes) ≡ true → bytes ≡ c ∷ cs → is_blank c ≡ true → ⊥
+symbol_no_blank : (bytes : List ℕ) (c : ℕ) (cs : List ℕ) → symbol_start bytes ≡ true → bytes ≡ c ∷ cs → is_blank c ≡ true → ⊥
 unfolding symbol_start
 symbol_no_blank [] c cs start same blank = cc
 symbol_no_blank (d ∷ ds) c cs start same blank =
@@ -173,7 +174,7 @@ symbol_no_blank (d ∷ ds) c cs start same blank =
     cc
 
 -- no symbol is empty
-symbol_some : (bytes : List ℕ) → symbol_start (Some bytes) ≡ true → bytes ≡ [] → ⊥
+symbol_some : (bytes : List ℕ) → symbol_start bytes ≡ true → bytes ≡ [] → ⊥
 unfolding symbol_start
 symbol_some [] start empty = cc
 symbol_some (c ∷ cs) start empty = cc

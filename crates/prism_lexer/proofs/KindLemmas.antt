@@ -14,7 +14,7 @@ use Rattle.prism_syntax.specs.Tokens.{IsWord, IsToken, number_kind}
 use Rattle.prism_syntax.specs.Tokens as token
 use Rattle.prism_syntax.proofs.ListedLemmas.{one_spelled}
 use Rattle.prism_syntax.proofs.NumberLemmas.{one_spelling}
-use Rattle.prism_lexer.specs.Shape.{IsReal, IsQuoted}
+use Rattle.prism_lexer.specs.Lexemes.{IsReal, IsQuoted}
 use Rattle.prism_lexer.proofs.RunLemmas.{front_is}
 use Rattle.prism_lexer.proofs.FormLemmas.{Head, letter, quote, digit, other, head_of, reserved_word, word_head, number_head, symbol_head}
 use Rattle.prism_lexer.proofs.NumberLemmas.{IsNumberText}

@@ -9,7 +9,7 @@ use Rattle.std.proofs.lemmas.Bool.Decides.{nat_tests}
 use Rattle.std.proofs.lemmas.List.Sums.{prefix_len-le-length}
 use Rattle.smc_num.specs.Spelling.{Written, decimal, IsMark, IsExponent, none, bare, plus, minus, IsSpelled, whole, point, bar}
 use Rattle.prism_lexer.specs.Scan.{digits_len, fraction_len, sign_len, exponent_len}
-use Rattle.prism_lexer.specs.Shape.{IsReal}
+use Rattle.prism_lexer.specs.Lexemes.{IsReal}
 use Rattle.prism_lexer.proofs.RunLemmas.{Stops, run_passes, run_whole, run_most, front_is}
 
 -- ---- digits

@@ -6,8 +6,7 @@ use Rattle.prism_syntax.specs.declared.tokens.Kind.{Kind}
 use Rattle.prism_syntax.specs.declared.tokens.Token.{Token}
 use Rattle.prism_syntax.specs.Tokens.{IsToken, IsFirstToken, is_blank, is_one_line, EndsLine, BeginsNoComment, Reads}
 use Rattle.prism_syntax.specs.Tokens as read
-use Rattle.prism_lexer.specs.Shape.{BeginsNoToken}
-use Rattle.prism_lexer.specs.Blanks.{StandsClear}
+use Rattle.prism_lexer.specs.Outcome.{BeginsNoToken, StandsClear}
 use Rattle.prism_lexer.proofs.RunLemmas.{Stops, run_whole}
 use Rattle.prism_lexer.proofs.FormLemmas.{token_no_blank, token_some}
 use Rattle.prism_lexer.proofs.KindLemmas.{one_kind}

@@ -11,10 +11,11 @@ use Rattle.prism_syntax.specs.declared.tokens.Kind.{Kind}
 use Rattle.prism_syntax.specs.Spelling.{spelling_of, is_symbol, begins_word}
 use Rattle.prism_syntax.specs.Tokens.{is_word, IsWord, goes_on_word, IsToken, IsLongestSymbol, BeginsNoSymbol}
 use Rattle.prism_syntax.specs.Tokens as token
-use Rattle.prism_lexer.specs.declared.lexemes.Lexeme.{Lexeme}
-use Rattle.prism_lexer.specs.declared.lexemes.Lexeme.TheVariants as lexeme
+use Rattle.prism_lexer.specs.declared.lexeme.Lexeme.{Lexeme}
+use Rattle.prism_lexer.specs.declared.lexeme.Lexeme.TheVariants as lexeme
 use Rattle.prism_lexer.specs.Scan.{digits_len, fraction_len, exponent_len, number_of, number_at, word_len, begins_quote, quoted_at, varied_at}
-use Rattle.prism_lexer.specs.Shape.{IsQuoted, HasForm, IsFront, IsSymbolFront, BeginsNoToken}
+use Rattle.prism_lexer.specs.Outcome.{BeginsNoToken}
+use Rattle.prism_lexer.specs.Lexemes.{IsQuoted, HasLexeme, IsLongestLexeme, IsSymbolLexeme}
 use Rattle.prism_lexer.proofs.RunLemmas.{Stops, run_passes, run_whole, run_most, front_is}
 use Rattle.prism_lexer.proofs.NumberLemmas.{tail_len, after_digits, number_len, number_whole, number_real, number_within, IsNumberText, number_most}
 use Rattle.prism_lexer.proofs.FormLemmas.{digit_head, Head, letter, quote, digit, other, head_of, word, quoted, number, symbol, form_of, word_head, quoted_head, number_head, symbol_head, token_some}
@@ -107,7 +108,7 @@ digit_longest text n begins numbers_most front after kind cut is = elim (form_of
 ]
 
 -- a word begins a text
-word_front : (text : List ℕ) → 0 < word_len text → IsFront text lexeme.Word (word_len text)
+word_front : (text : List ℕ) → 0 < word_len text → IsLongestLexeme text lexeme.Word (word_len text)
 unfolding Longest
 word_front text some =
     let found = word_found text some in
@@ -155,7 +156,7 @@ inside_size text front after cut q =
     let same : word_len text ≡ length i.word = ap word_len i.cut ∙ word_whole i.word (34 ∷ after) i.is_word refl in
     omega (arith, same, i.size)
 
-quoted_front : (text : List ℕ) → (nat_lt 0 (word_len text) && begins_quote (drop (word_len text) text)) ≡ true → IsFront (34 ∷ text) lexeme.Quoted (word_len text + 2)
+quoted_front : (text : List ℕ) → (nat_lt 0 (word_len text) && begins_quote (drop (word_len text) text)) ≡ true → IsLongestLexeme (34 ∷ text) lexeme.Quoted (word_len text + 2)
 unfolding Longest
 quoted_front text is_true =
     let parts = and_parts _ _ is_true in
@@ -246,18 +247,18 @@ not_numbered d f e none =
 
 -- a number begins a text
 number_form : (text : List ℕ) (form : Lexeme) → 0 < digits_len text + fraction_len (after_digits text)
-    → cond (tail_len (after_digits text) == 0) lexeme.Whole lexeme.Real ≡ form → HasForm form (take (number_len text) text)
+    → cond (tail_len (after_digits text) == 0) lexeme.Whole lexeme.Real ≡ form → HasLexeme form (take (number_len text) text)
 unfolding tail_len
 number_form text form some is_form =
     ⊎_elim
     (λ (is_true : (tail_len (after_digits text) == 0) ≡ true).
     let nothing = eqb-true (tail_len (after_digits text)) 0 is_true in
-    subst (λ m. HasForm m (take (number_len text) text)) (sym (cond-true _ _ _ is_true) ∙ is_form) (number_whole text (omega (arith, nothing, some)) nothing))
+    subst (λ m. HasLexeme m (take (number_len text) text)) (sym (cond-true _ _ _ is_true) ∙ is_form) (number_whole text (omega (arith, nothing, some)) nothing))
     (λ (is_false : (tail_len (after_digits text) == 0) ≡ false).
-    subst (λ m. HasForm m (take (number_len text) text)) (sym (cond-false _ _ _ is_false) ∙ is_form) (number_real text some (λ nothing. let clash : true ≡ false = sym (eq-eqb _ 0 nothing) ∙ is_false in cc)))
+    subst (λ m. HasLexeme m (take (number_len text) text)) (sym (cond-false _ _ _ is_false) ∙ is_form) (number_real text some (λ nothing. let clash : true ≡ false = sym (eq-eqb _ 0 nothing) ∙ is_false in cc)))
     (cases_Bool (tail_len (after_digits text) == 0))
 
-number_front : (text : List ℕ) (form : Lexeme) (n : ℕ) → number_at text ≡ Some (form, n) → IsFront text form n
+number_front : (text : List ℕ) (form : Lexeme) (n : ℕ) → number_at text ≡ Some (form, n) → IsLongestLexeme text form n
 unfolding number_at number_len tail_len after_digits Longest
 number_front text form n found =
     let after : List ℕ = drop (digits_len text) text in
@@ -266,7 +267,7 @@ number_front text form n found =
     record {
       some = omega (arith, parts.some, parts.size);
       within = omega (arith, size, number_within text);
-      form_is = subst (λ k. HasForm form (take k text)) size (number_form text form parts.some parts.is_form);
+      form_is = subst (λ k. HasLexeme form (take k text)) size (number_form text form parts.some parts.is_form);
       longest = digit_longest text n (number_begins text parts.some)
           (λ front rest cut m.
           let most : length front ≤ number_len text = subst (λ t. length front ≤ number_len t) (sym cut) (number_most front rest m).size in
@@ -300,31 +301,31 @@ head_no_number : (text front after : List ℕ) (h : Head) → head_of text ≡ h
 head_no_number text front after h is apart cut m = apart (sym (head_cut text front after digit cut (number_head front after m)) ∙ is)
 
 -- what is found after the first quotation mark
-quoted_is : (cs : List ℕ) (form : Lexeme) (n : ℕ) → quoted_at cs ≡ Some (form, n) → IsFront (34 ∷ cs) form n
+quoted_is : (cs : List ℕ) (form : Lexeme) (n : ℕ) → quoted_at cs ≡ Some (form, n) → IsLongestLexeme (34 ∷ cs) form n
 unfolding quoted_at
 quoted_is cs form n found =
     ⊎_elim
     (λ (is_true : (nat_lt 0 (word_len cs) && begins_quote (drop (word_len cs) cs)) ≡ true).
     let both = same_pair lexeme.Quoted form (word_len cs + 2) n (sym (cond-true _ _ _ is_true) ∙ found) in
-    subst₂ (λ l k. IsFront (34 ∷ cs) l k) both.0 both.1 (quoted_front cs is_true))
+    subst₂ (λ l k. IsLongestLexeme (34 ∷ cs) l k) both.0 both.1 (quoted_front cs is_true))
     (λ (is_false : (nat_lt 0 (word_len cs) && begins_quote (drop (word_len cs) cs)) ≡ false).
     let clash : ◌≡◌ {A = Option (Lexeme × ℕ)} None (Some (form, n)) = sym (cond-false _ _ _ is_false) ∙ found in absurd (cc))
     (cases_Bool (nat_lt 0 (word_len cs) && begins_quote (drop (word_len cs) cs)))
 
 -- what is found
-pub varied_front : (text : List ℕ) (form : Lexeme) (n : ℕ) → varied_at text ≡ Some (form, n) → IsFront text form n
+pub varied_front : (text : List ℕ) (form : Lexeme) (n : ℕ) → varied_at text ≡ Some (form, n) → IsLongestLexeme text form n
 unfolding varied_at quoted_at
 varied_front [] form n found = absurd (cc)
 varied_front (c ∷ cs) form n found =
     ⊎_elim
     (λ (is_true : (c == 34) ≡ true).
     let inner : quoted_at cs ≡ Some (form, n) = sym (cond-true _ _ _ is_true) ∙ found in
-    subst (λ b. IsFront (b ∷ cs) form n) (sym (eqb-true c 34 is_true)) (quoted_is cs form n inner))
+    subst (λ b. IsLongestLexeme (b ∷ cs) form n) (sym (eqb-true c 34 is_true)) (quoted_is cs form n inner))
     (λ (is_false : (c == 34) ≡ false).
     ⊎_elim
     (λ (is_true : nat_lt 0 (word_len (c ∷ cs)) ≡ true).
     let both = same_pair lexeme.Word form (word_len (c ∷ cs)) n (sym (cond-false _ _ _ is_false ∙ cond-true _ _ _ is_true) ∙ found) in
-    subst₂ (λ l k. IsFront (c ∷ cs) l k) both.0 both.1 (word_front (c ∷ cs) (ltb-true _ _ is_true)))
+    subst₂ (λ l k. IsLongestLexeme (c ∷ cs) l k) both.0 both.1 (word_front (c ∷ cs) (ltb-true _ _ is_true)))
     (λ (none : nat_lt 0 (word_len (c ∷ cs)) ≡ false). number_front (c ∷ cs) form n (sym (cond-false _ _ _ is_false ∙ cond-false _ _ _ none) ∙ found))
     (cases_Bool (nat_lt 0 (word_len (c ∷ cs)))))
     (cases_Bool (c == 34))
@@ -385,15 +386,15 @@ varied_none (c ∷ cs) none =
 -- ---- symbols
 
 -- the longest symbol is the longest token where symbols alone begin a text
-pub symbol_front_is : (text : List ℕ) (form : Lexeme) (n : ℕ) → SymbolsAlone text → IsSymbolFront text form n → IsFront text form n
-symbol_front_is text form n alone found =
+pub symbol_lexeme_is : (text : List ℕ) (form : Lexeme) (n : ℕ) → SymbolsAlone text → IsSymbolLexeme text form n → IsLongestLexeme text form n
+symbol_lexeme_is text form n alone found =
     let s = found.symbol in
     let size : length s.bytes ≡ n = sym found.size in
     let whole = ap length s.cut ∙ length-append s.bytes s.after in
     record {
       some = omega (arith, found.size, symbol_some found.kind s.bytes s.symbol s.spelling);
       within = omega (arith, found.size, whole);
-      form_is = subst₂ (λ l t. HasForm l t) (sym found.is_form) (sym (front_is text s.bytes s.after n s.cut size)) s.spelling;
+      form_is = subst₂ (λ l t. HasLexeme l t) (sym found.is_form) (sym (front_is text s.bytes s.after n s.cut size)) s.spelling;
       longest = λ front after kind cut is. elim (form_of front kind is) [
         | word w ↦ absurd (alone.no_word front after cut w)
         | quoted q ↦ absurd (alone.no_quoted front after cut q)
@@ -416,16 +417,16 @@ no_token text alone none front after kind cut is = elim (form_of front kind is) 
 ]
 
 -- what is found where symbols alone begin a text
-pub symbol_found_front : (text : List ℕ) (found : Option (Lexeme × ℕ)) → SymbolsAlone text → IfSome found (λ front. IsSymbolFront text front.0 front.1) → IfSome found (λ front. IsFront text front.0 front.1)
+pub symbol_found_front : (text : List ℕ) (found : Option (Lexeme × ℕ)) → SymbolsAlone text → IfSome found (λ front. IsSymbolLexeme text front.0 front.1) → IfSome found (λ front. IsLongestLexeme text front.0 front.1)
 symbol_found_front text None alone is = tt
-symbol_found_front text (Some front) alone is = symbol_front_is text front.0 front.1 alone is
+symbol_found_front text (Some front) alone is = symbol_lexeme_is text front.0 front.1 alone is
 
 pub symbol_none_front : (text : List ℕ) (found : Option (Lexeme × ℕ)) → SymbolsAlone text → IfNone found (BeginsNoSymbol text) → IfNone found (BeginsNoToken text)
 symbol_none_front text None alone none = no_token text alone none
 symbol_none_front text (Some front) alone none = tt
 
 -- a longest symbol is as long as its spelling
-pub symbol_spelled : (text : List ℕ) (kind : Kind) (bytes : List ℕ) → IsLongestSymbol text kind → Some bytes ≡ spelling_of kind → IsSymbolFront text (lexeme.Symbol kind) (length bytes)
+pub symbol_spelled : (text : List ℕ) (kind : Kind) (bytes : List ℕ) → IsLongestSymbol text kind → Some bytes ≡ spelling_of kind → IsSymbolLexeme text (lexeme.Symbol kind) (length bytes)
 symbol_spelled text kind bytes found spelled =
     let same : Some bytes ≡ Some found.bytes = spelled ∙ found.spelling in
     let bytes_same : bytes ≡ found.bytes = cc in

@@ -7,11 +7,6 @@ use Rattle.prism_syntax.specs.Tokens.{BeginsNoComment, is_blank, Reads}
 abbrev pub line_len : List ℕ → ℕ
 line_len text = prefix_len (λ c. not (c == 10)) text
 
--- neither a blank nor a comment begins a text
-pub record StandsClear (text : List ℕ) : Type 0 where
-  pub no_blank : (c : ℕ) (rest : List ℕ) → text ≡ c ∷ rest → IsTrue (is_blank c) → ⊥
-  pub no_comment : BeginsNoComment text
-
 -- blanks and comments alone stand before the rest
 pub record Passes (text rest : List ℕ) : Type 0 where
   pub shorter : length rest ≤ length text

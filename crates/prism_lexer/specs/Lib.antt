@@ -1,4 +1,5 @@
+pub mod Outcome
+pub mod Lexemes
 pub mod Scan
-pub mod Shape
 pub mod Blanks
-pub mod Answers
+pub mod Steps

@@ -4,8 +4,8 @@ use Rattle.std.specs.List.{prefix_len}
 use Rattle.std.specs.Char.{is_ascii_digit}
 use Rattle.prism_syntax.specs.Spelling.{begins_word}
 use Rattle.prism_syntax.specs.Tokens.{goes_on_word}
-use Rattle.prism_lexer.specs.declared.lexemes.Lexeme.{Lexeme}
-use Rattle.prism_lexer.specs.declared.lexemes.Lexeme.TheVariants as lexeme
+use Rattle.prism_lexer.specs.declared.lexeme.Lexeme.{Lexeme}
+use Rattle.prism_lexer.specs.declared.lexeme.Lexeme.TheVariants as lexeme
 
 -- how many digits begin a text
 abbrev pub digits_len : List ℕ → ℕ

@@ -1,7 +1,8 @@
 ghost use Rattle.std.specs.Prelude.{◌≡◌, ◌≤◌, ◌<◌, not, ◌==◌, length, drop, IfSome, IfNone};
 ghost use Rattle.std.specs.List.{prefix_len};
 ghost use Rattle.prism_syntax.specs.Tokens.{is_blank};
-ghost use Rattle.prism_lexer.specs.Blanks.{Passes, StandsClear, line_len};
+ghost use Rattle.prism_lexer.specs.Outcome.{StandsClear};
+ghost use Rattle.prism_lexer.specs.Blanks.{Passes, line_len};
 
 /// What follows the blanks and comments that begin a text.
 pub fn past_blanks(text: &[u8]) -> &[u8]

@@ -1,10 +1,12 @@
-ghost use Rattle.std.specs.Prelude.{◌≡◌, ◌+◌, ◌<◌, ◌^◌, ℕ, List, length, IfOk, MatchResult, All, false};
+ghost use Rattle.std.specs.Prelude.{◌≡◌, ◌+◌, ◌<◌, ◌^◌, ℕ, List, length, IfOk, Err, MatchResult, All, false};
 ghost use Rattle.prism_syntax.specs.declared.tokens.Token.{Token};
-ghost use Rattle.prism_syntax.specs.Formed.{IsFormedKind};
-ghost use Rattle.prism_lexer.specs.Answers.{IsCutInto, HasTooMany, HasBadByte, HasWideNumber, Tells, ComesWhere, Gives, seen, IsNext, Refuses};
+ghost use Rattle.prism_syntax.specs.WellFormed.{IsFormedKind};
+ghost use Rattle.prism_syntax.specs.Outcome.{ComesWhere};
+ghost use Rattle.prism_lexer.specs.Outcome.{IsCutInto, HasTooMany, HasBadByte, HasWideNumber, IsOutOfMemory, Gives};
+ghost use Rattle.prism_lexer.specs.Steps.{Tells, seen, IsNext, Refuses};
 
 use crate::blanks::past_blanks;
-use crate::faults::LexFault;
+use crate::fault::LexFault;
 use crate::kinds::kind_of;
 use crate::scanning::scan;
 use prism_syntax::Token;
@@ -20,10 +22,11 @@ pub fn tokens(alloc: Global, text: &[u8]) -> Result<Vec<Token>, LexFault>
     ensures ok { IfOk result (λ v. IsCutInto text.now v.items) }
     ensures formed { IfOk result (λ v. All (λ t. IsFormedKind t.kind) v.items) }
     ensures all { (ts : List Token) → IsCutInto text.now ts → Gives result ts }
-    ensures too_many { ComesWhere result LexFault.TooMany (HasTooMany text.now) }
-    ensures bad_byte { (at : ℕ) → ComesWhere result (LexFault.BadByte at) (HasBadByte text.now at) }
+    ensures too_many { ComesWhere IsOutOfMemory result (Err LexFault.TooMany) (HasTooMany text.now) }
+    ensures bad_byte { (at : ℕ)
+        → ComesWhere IsOutOfMemory result (Err (LexFault.BadByte at)) (HasBadByte text.now at) }
     ensures too_wide { (at : ℕ)
-        → ComesWhere result (LexFault.NumberTooWide at) (HasWideNumber text.now at) }
+        → ComesWhere IsOutOfMemory result (Err (LexFault.NumberTooWide at)) (HasWideNumber text.now at) }
 {
     cut(alloc, text)
 }

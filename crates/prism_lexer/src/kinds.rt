@@ -1,16 +1,16 @@
 ghost use Rattle.std.specs.Prelude.{◌≡◌, IfOk, Some};
 ghost use Rattle.prism_syntax.specs.Tokens.{IsWord, IsToken};
-ghost use Rattle.prism_lexer.specs.Shape.{HasForm, IsQuoted, IsReal};
+ghost use Rattle.prism_lexer.specs.Lexemes.{HasLexeme, IsQuoted, IsReal};
 ghost use Rattle.std.specs.Str.Parse.{IsNumeral};
 
-use crate::lexemes::Lexeme;
+use crate::lexeme::Lexeme;
 use prism_syntax::{Kind, word};
 use smc_num::{Text, read};
 use std::alloc::{AllocError, Global};
 
 /// The kind of a token of this form, or none for a number that is too wide.
 pub fn kind_of(alloc: Global, form: Lexeme, bytes: &[u8]) -> Result<Option<Kind>, AllocError>
-    requires { HasForm form bytes.now }
+    requires { HasLexeme form bytes.now }
     ensures { IfOk result (λ kind. IsToken bytes.now kind) }
 {
     match form {

@@ -3,14 +3,16 @@
 
 mod blanks;
 mod cut;
-mod faults;
+mod fault;
 mod kinds;
-mod lexemes;
+mod laws;
+mod lexeme;
 mod numbers;
 mod scanning;
 
 pub use cut::tokens;
-pub use faults::LexFault;
+pub use fault::LexFault;
+pub use laws::one_cut;
 
 #[cfg(test)]
 mod tests;

@@ -1,7 +1,7 @@
 ghost use Rattle.std.specs.Prelude.{◌≡◌, ◌≤◌, length, drop};
 ghost use Rattle.prism_lexer.specs.Scan.{digits_len, fraction_len, sign_len, exponent_len, number_of, number_at};
 
-use crate::lexemes::Lexeme;
+use crate::lexeme::Lexeme;
 
 /// The number that begins a text: its form and how many bytes it has.
 #[tactic(auto, unfolding(crate::specs::Scan::number_at))]

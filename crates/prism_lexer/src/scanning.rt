@@ -3,20 +3,21 @@ ghost use Rattle.std.specs.List.{prefix_len};
 ghost use Rattle.prism_syntax.specs.Spelling.{begins_word};
 ghost use Rattle.prism_syntax.specs.Tokens.{goes_on_word, BeginsNoSymbol};
 ghost use Rattle.prism_lexer.specs.Scan.{word_len, quoted_at, varied_at};
-ghost use Rattle.prism_lexer.specs.Shape.{IsFront, BeginsNoToken, IsSymbolFront};
+ghost use Rattle.prism_lexer.specs.Outcome.{BeginsNoToken};
+ghost use Rattle.prism_lexer.specs.Lexemes.{IsLongestLexeme, IsSymbolLexeme};
 
-use crate::lexemes::Lexeme;
+use crate::lexeme::Lexeme;
 use crate::numbers::number;
 use prism_syntax::{spelling, symbol};
 
 /// The longest token that begins a text: its form and how many bytes it has.
 pub fn scan(text: &[u8]) -> Option<(Lexeme, usize)>
-    ensures found { IfSome result (λ front. IsFront text.now front.0 front.1) }
+    ensures found { IfSome result (λ front. IsLongestLexeme text.now front.0 front.1) }
     ensures none { IfNone result (BeginsNoToken text.now) }
 {
     match varied(text) {
         Some(front) => Some(front),
-        None => symbol_front(text),
+        None => symbol_lexeme(text),
     }
 }
 
@@ -80,8 +81,8 @@ fn goes_on_word(byte: u8) -> bool
 }
 
 /// The longest symbol that begins a text.
-fn symbol_front(text: &[u8]) -> Option<(Lexeme, usize)>
-    ensures found { IfSome result (λ front. IsSymbolFront text.now front.0 front.1) }
+fn symbol_lexeme(text: &[u8]) -> Option<(Lexeme, usize)>
+    ensures found { IfSome result (λ front. IsSymbolLexeme text.now front.0 front.1) }
     ensures none { IfNone result (BeginsNoSymbol text.now) }
 {
     let kind = symbol(text)?;

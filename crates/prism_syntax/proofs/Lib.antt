@@ -1,4 +1,5 @@
 pub mod NumberLemmas
 pub mod ListedLemmas
-pub mod FindLemmas
+pub mod TableLemmas
 pub mod SpellingLemmas
+pub mod InverseLemmas

@@ -1,8 +1,13 @@
 pub mod Spelling
 pub mod Tokens
-pub mod Lines
+pub mod Precedence
+pub mod Inverses
 pub mod Expressions
 pub mod Models
 pub mod Properties
-pub mod Formed
-pub mod Nodes
+pub mod WellFormed
+pub mod NodeCount
+pub mod ParenDepth
+pub mod Replaced
+pub mod Outcome
+pub mod SpellingTables

@@ -93,10 +93,6 @@ spelling_of (k.Quoted text) = None
 spelling_of (k.Whole value) = None
 spelling_of (k.Real value) = None
 
--- how many bytes the spelling of a kind has
-abbrev pub size_of : Kind → ℕ
-size_of kind = length (unwrap_or (spelling_of kind) [])
-
 -- a letter or `_`
 abbrev pub begins_word : ℕ → Bool
 begins_word c = is_ascii_alphabetic c || c == 95
@@ -109,24 +105,6 @@ symbolic _ = false
 -- a symbol
 abbrev pub is_symbol : Kind → Bool
 is_symbol kind = symbolic (spelling_of kind)
-
--- the reserved words
-unfoldable pub words : List Kind
-words = k.A ∷ k.Bool ∷ k.Clock ∷ k.Const ∷ k.Ctmc ∷ k.C ∷ k.Double ∷ k.Dtmc ∷ k.E ∷ k.EndInit ∷ k.EndInvariant ∷ k.EndModule ∷ k.EndObservables ∷ k.EndRewards ∷ k.EndSystem ∷ k.False ∷ k.Filter ∷ k.Formula ∷ k.Func ∷ k.F ∷ k.Global ∷ k.G ∷ k.I ∷ k.Init ∷ k.Int ∷ k.Invariant ∷ k.Label ∷ k.Max ∷ k.Mdp ∷ k.Min ∷ k.Module ∷ k.Nondeterministic ∷ k.Observable ∷ k.Observables ∷ k.Of ∷ k.P ∷ k.Pmax ∷ k.Pmin ∷ k.Pomdp ∷ k.Popta ∷ k.Prob ∷ k.Probabilistic ∷ k.Pta ∷ k.R ∷ k.Rate ∷ k.Rewards ∷ k.Rmax ∷ k.Rmin ∷ k.S ∷ k.Stochastic ∷ k.System ∷ k.True ∷ k.U ∷ k.W ∷ k.X ∷ []
-
--- the symbols, the longer ones first
-unfoldable pub symbols : List Kind
-symbols = k.Equivalent ∷ k.Dots ∷ k.NotEqual ∷ k.LessEqual ∷ k.GreaterEqual ∷ k.Arrow ∷ k.Implies ∷ k.Semicolon ∷ k.Colon ∷ k.Comma ∷ k.OpenBracket ∷ k.CloseBracket ∷ k.Open ∷ k.Close ∷ k.Prime ∷ k.Equal ∷ k.Less ∷ k.Greater ∷ k.Plus ∷ k.Dash ∷ k.Star ∷ k.Slash ∷ k.Ampersand ∷ k.Bar ∷ k.Bang ∷ k.Query ∷ []
-
--- this spelling is the text
-abbrev pub spells : Option (List ℕ) → List ℕ → Bool
-spells (Some bytes) text = bytes_eq bytes text
-spells None text = false
-
--- the text begins with this spelling
-abbrev pub begins : Option (List ℕ) → List ℕ → Bool
-begins (Some bytes) text = starts_with nat_eq text bytes
-begins None text = false
 
 -- the reserved words of the language that this profile leaves out: they are refused by name
 unfoldable pub is_refused : Kind → Bool

@@ -28,6 +28,15 @@ IsWord text = IsTrue (is_word text)
 abbrev pub IsFree : List ℕ → Type 0
 IsFree bytes = (kind : Kind) → spelling_of kind ≡ Some bytes → ⊥
 
+-- the reserved word that a text is
+pub record IsReservedWord (text : List ℕ) (kind : Kind) : Type 0 where
+  pub spelling : spelling_of kind ≡ Some text
+  pub word : is_symbol kind ≡ false
+
+-- no reserved word is spelled so
+abbrev pub IsNotReserved : List ℕ → Type 0
+IsNotReserved text = (kind : Kind) → IsReservedWord text kind → ⊥
+
 -- the longest symbol with which a text begins
 pub record IsLongestSymbol (text : List ℕ) (kind : Kind) : Type 0 where
   pub bytes : List ℕ

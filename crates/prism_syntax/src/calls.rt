@@ -1,5 +1,5 @@
 ghost use Rattle.std.specs.Prelude.{◌≡◌};
-ghost use Rattle.prism_syntax.specs.Lines.{function, named_function, takes, may_take};
+ghost use Rattle.prism_syntax.specs.Precedence.{function, named_function, takes};
 
 use crate::expressions::Func;
 use crate::tokens::Kind;
@@ -36,16 +36,5 @@ pub fn takes(function: Func, more: usize) -> bool
         Func::Min | Func::Max => 1 <= more,
         Func::Floor | Func::Ceil => more == 0,
         Func::Pow | Func::Mod => more == 1,
-    }
-}
-
-/// Whether a function takes this many parts after its first, or more than that.
-pub fn may_take(function: Func, more: usize) -> bool
-    ensures { result ≡ may_take function more }
-{
-    match function {
-        Func::Min | Func::Max => true,
-        Func::Floor | Func::Ceil => more == 0,
-        Func::Pow | Func::Mod => more <= 1,
     }
 }

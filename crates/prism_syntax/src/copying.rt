@@ -1,3 +1,6 @@
+mod commands;
+mod models;
+
 ghost use Rattle.std.specs.Prelude.{◌≡◌, IfOk};
 
 use crate::expressions::Expr;
@@ -54,4 +57,14 @@ fn copy_all(alloc: Global, exprs: &[Expr]) -> Result<Items<Expr>, AllocError>
         trees.push(expr.copy(alloc)?)?;
     }
     Ok(trees)
+}
+
+/// The same expression once more, where there is one.
+fn copy_optional(alloc: Global, expr: &Option<Expr>) -> Result<Option<Expr>, AllocError>
+    ensures { IfOk result (λ tree. tree ≡ expr.now) }
+{
+    match expr {
+        Some(tree) => Ok(Some(tree.copy(alloc)?)),
+        None => Ok(None),
+    }
 }

@@ -51,6 +51,18 @@ pub enum Module {
     },
 }
 
+/// An item of a model.
+#[derive(Debug, Drop)]
+pub enum Item {
+    Const(ConstText),
+    Global(Variable),
+    Formula(Named),
+    Module(Module),
+    Label(Named),
+    /// A rewards block, which is passed over.
+    Rewards,
+}
+
 /// A model as it is written. Each list is in text order.
 #[derive(Debug, Drop)]
 pub struct ModelText {

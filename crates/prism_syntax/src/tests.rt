@@ -1,4 +1,5 @@
 use super::*;
+use indexmap::IndexMap;
 use smc_num::{Frac, Text};
 use sqlite_items::{Boxed, Items};
 use std::alloc::{AllocError, Global};
@@ -60,19 +61,93 @@ fn trees_have_a_node_for_each_part(rt: HostRuntime) -> Result<(), Fail> {
     Ok(())
 }
 
-#[test]
-fn deep_trees_are_copied_counted_and_let_go(rt: HostRuntime) -> Result<(), Fail> {
-    let alloc = rt.alloc();
+/// The tree of the deepest text that the limits allow: `x` behind 64 times 64 `!`, 64 `-` and `(`, in
+/// the last branch of 1,024 conditionals.
+fn deepest(alloc: Global) -> Result<Expr, AllocError> {
     let mut tree = name(alloc, b"x")?;
-    for _ in 0..12_000 {
-        tree = Expr::Not(Boxed::new(alloc, tree)?);
+    for _ in 0..64 {
+        tree = Expr::Paren(Boxed::new(alloc, tree)?);
+        for _ in 0..64 {
+            tree = Expr::Minus(Boxed::new(alloc, tree)?);
+        }
+        for _ in 0..64 {
+            tree = Expr::Not(Boxed::new(alloc, tree)?);
+        }
     }
-    for _ in 0..1_000 {
+    for _ in 0..1_024 {
         tree = choice(alloc, name(alloc, b"a")?, name(alloc, b"b")?, tree)?;
     }
+    Ok(tree)
+}
+
+#[test]
+fn the_deepest_tree_is_copied_counted_replaced_and_let_go(rt: HostRuntime) -> Result<(), Fail> {
+    let alloc = rt.alloc();
+    let tree = deepest(alloc)?;
     let again = tree.copy(alloc)?;
-    assert_eq!(rt; nodes(&tree), 15_001);
-    assert_eq!(rt; nodes(&again), 15_001);
+    let mut table = IndexMap::new(alloc);
+    let paren = Expr::Paren(Boxed::new(alloc, name(alloc, b"y")?)?);
+    table.insert(Text::from_bytes(alloc, b"x")?, paren)?;
+    let replaced = again.replace(alloc, &table)?;
+    assert_eq!(rt; (nodes(&tree), depth_of_parens(&tree)), (11_329, 64));
+    assert_eq!(rt; (nodes(&replaced), depth_of_parens(&replaced)), (11_330, 65));
+    Ok(())
+}
+
+/// `[x] x -> x:(x'=x);`
+fn command(alloc: Global) -> Result<Command, AllocError> {
+    let mut sets = Items::new(alloc);
+    sets.push((Text::from_bytes(alloc, b"x")?, name(alloc, b"x")?))?;
+    let mut branches = Items::new(alloc);
+    branches.push(Branch {
+        weight: Some(name(alloc, b"x")?),
+        sets,
+    })?;
+    Ok(Command {
+        action: Some(Text::from_bytes(alloc, b"x")?),
+        guard: name(alloc, b"x")?,
+        branches,
+    })
+}
+
+/// `x:[x..x];`
+fn variable(alloc: Global) -> Result<Variable, AllocError> {
+    Ok(Variable {
+        name: Text::from_bytes(alloc, b"x")?,
+        range: Some((name(alloc, b"x")?, name(alloc, b"x")?)),
+        init: None,
+    })
+}
+
+/// `dtmc module x x:[x..x]; [x] x -> x:(x'=x); endmodule`
+fn model(alloc: Global) -> Result<ModelText, AllocError> {
+    let mut vars = Items::new(alloc);
+    vars.push(variable(alloc)?)?;
+    let mut commands = Items::new(alloc);
+    commands.push(command(alloc)?)?;
+    let mut modules = Items::new(alloc);
+    modules.push(Module::Written {
+        name: Text::from_bytes(alloc, b"x")?,
+        vars,
+        commands,
+    })?;
+    Ok(ModelText {
+        consts: Items::new(alloc),
+        globals: Items::new(alloc),
+        formulas: Items::new(alloc),
+        modules,
+        labels: Items::new(alloc),
+    })
+}
+
+#[test]
+fn a_model_is_copied(rt: HostRuntime) -> Result<(), Fail> {
+    let alloc = rt.alloc();
+    let tree = model(alloc)?;
+    let again = tree.copy(alloc)?;
+    let first = format!(in alloc; "{tree:?}")?;
+    let second = format!(in alloc; "{again:?}")?;
+    assert_eq!(rt; first.as_bytes(), second.as_bytes());
     Ok(())
 }
 
@@ -120,18 +195,19 @@ fn words_are_refused_by_name(rt: HostRuntime) {
 #[test]
 fn tokens_have_their_places_in_the_grammar(rt: HostRuntime) -> Result<(), Fail> {
     let alloc = rt.alloc();
-    assert_eq!(rt; Line::Sum.operator(&Kind::Dash), Some(Op::Sub));
-    assert_eq!(rt; Line::Product.operator(&Kind::Dash), None);
-    assert_eq!(rt; Line::Relation.inner(), Line::Sum);
-    assert!(rt; Line::Unary.is_sign(&Kind::Dash));
-    assert!(rt; Line::Equality.is_chain() && !Line::Negation.is_chain());
-    assert!(rt; Line::Negation.is_prefix() && !Line::Choice.is_prefix());
+    assert_eq!(rt; Precedence::Sum.operator(&Kind::Dash), Some(Op::Sub));
+    assert_eq!(rt; Precedence::Product.operator(&Kind::Dash), None);
+    assert_eq!(rt; Precedence::Relation.inner(), Precedence::Sum);
+    assert!(rt; Precedence::Unary.is_sign(&Kind::Dash));
+    assert!(rt; Precedence::Equality.is_chain() && !Precedence::Negation.is_chain());
+    assert!(rt; Precedence::Negation.is_prefix() && !Precedence::Conditional.is_prefix());
     assert_eq!(rt; function(&Kind::Max), Some(Func::Max));
     assert_eq!(rt;
         function(&Kind::Name(Text::from_bytes(alloc, b"ceil")?)),
         Some(Func::Ceil)
     );
+    assert_eq!(rt; Op::Iff.token(), Kind::Equivalent);
+    assert_eq!(rt; Func::Pow.spelling(), b"pow".as_slice());
     assert!(rt; takes(Func::Min, 3) && takes(Func::Pow, 1) && !takes(Func::Floor, 1));
-    assert!(rt; may_take(Func::Pow, 0) && may_take(Func::Max, 9) && !may_take(Func::Ceil, 1));
     Ok(())
 }

@@ -1,289 +1,205 @@
-ghost use Rattle.std.specs.Prelude.{◌≡◌, IfSome, IfNone};
-ghost use Rattle.std.specs.Option.{option_copied};
-ghost use Rattle.std.specs.List.{find};
-ghost use Rattle.prism_syntax.specs.Spelling.{spelling_of, spells, begins, words, symbols, is_refused};
-ghost use Rattle.prism_syntax.specs.Tokens.{IsWord, IsFree, IsLongestSymbol, BeginsNoSymbol};
+ghost use Rattle.std.specs.Prelude.{◌≡◌, ◌↔◌, IfSome, None, bytes_eq, length};
+ghost use Rattle.std.specs.Map.{lookup};
+ghost use Rattle.prism_syntax.specs.Tokens.{IsReservedWord, IsNotReserved};
+ghost use Rattle.prism_syntax.specs.SpellingTables.{words_of, one_letter_words, four_letter_words, five_letter_words, middle_words, short_words, long_words};
 
 use crate::tokens::Kind;
 
-/// The bytes of a symbol or of a reserved word; a name or a number has no spelling of its own.
-#[tactic(auto, unfolding(crate::specs::Spelling::spelling_of))]
-pub fn spelling(kind: &Kind) -> Option<&'static [u8]>
-    ensures { option_copied result ≡ spelling_of kind.now }
-{
-    match kind {
-        Kind::Semicolon => Some(b";"),
-        Kind::Colon => Some(b":"),
-        Kind::Comma => Some(b","),
-        Kind::Dots => Some(b".."),
-        Kind::OpenBracket => Some(b"["),
-        Kind::CloseBracket => Some(b"]"),
-        Kind::Open => Some(b"("),
-        Kind::Close => Some(b")"),
-        Kind::Prime => Some(b"'"),
-        Kind::Equal => Some(b"="),
-        Kind::NotEqual => Some(b"!="),
-        Kind::Less => Some(b"<"),
-        Kind::LessEqual => Some(b"<="),
-        Kind::Greater => Some(b">"),
-        Kind::GreaterEqual => Some(b">="),
-        Kind::Plus => Some(b"+"),
-        Kind::Dash => Some(b"-"),
-        Kind::Star => Some(b"*"),
-        Kind::Slash => Some(b"/"),
-        Kind::Ampersand => Some(b"&"),
-        Kind::Bar => Some(b"|"),
-        Kind::Bang => Some(b"!"),
-        Kind::Query => Some(b"?"),
-        Kind::Arrow => Some(b"->"),
-        Kind::Implies => Some(b"=>"),
-        Kind::Equivalent => Some(b"<=>"),
-        Kind::A => Some(b"A"),
-        Kind::Bool => Some(b"bool"),
-        Kind::Clock => Some(b"clock"),
-        Kind::Const => Some(b"const"),
-        Kind::Ctmc => Some(b"ctmc"),
-        Kind::C => Some(b"C"),
-        Kind::Double => Some(b"double"),
-        Kind::Dtmc => Some(b"dtmc"),
-        Kind::E => Some(b"E"),
-        Kind::EndInit => Some(b"endinit"),
-        Kind::EndInvariant => Some(b"endinvariant"),
-        Kind::EndModule => Some(b"endmodule"),
-        Kind::EndObservables => Some(b"endobservables"),
-        Kind::EndRewards => Some(b"endrewards"),
-        Kind::EndSystem => Some(b"endsystem"),
-        Kind::False => Some(b"false"),
-        Kind::Filter => Some(b"filter"),
-        Kind::Formula => Some(b"formula"),
-        Kind::Func => Some(b"func"),
-        Kind::F => Some(b"F"),
-        Kind::Global => Some(b"global"),
-        Kind::G => Some(b"G"),
-        Kind::I => Some(b"I"),
-        Kind::Init => Some(b"init"),
-        Kind::Int => Some(b"int"),
-        Kind::Invariant => Some(b"invariant"),
-        Kind::Label => Some(b"label"),
-        Kind::Max => Some(b"max"),
-        Kind::Mdp => Some(b"mdp"),
-        Kind::Min => Some(b"min"),
-        Kind::Module => Some(b"module"),
-        Kind::Nondeterministic => Some(b"nondeterministic"),
-        Kind::Observable => Some(b"observable"),
-        Kind::Observables => Some(b"observables"),
-        Kind::Of => Some(b"of"),
-        Kind::P => Some(b"P"),
-        Kind::Pmax => Some(b"Pmax"),
-        Kind::Pmin => Some(b"Pmin"),
-        Kind::Pomdp => Some(b"pomdp"),
-        Kind::Popta => Some(b"popta"),
-        Kind::Prob => Some(b"prob"),
-        Kind::Probabilistic => Some(b"probabilistic"),
-        Kind::Pta => Some(b"pta"),
-        Kind::R => Some(b"R"),
-        Kind::Rate => Some(b"rate"),
-        Kind::Rewards => Some(b"rewards"),
-        Kind::Rmax => Some(b"Rmax"),
-        Kind::Rmin => Some(b"Rmin"),
-        Kind::S => Some(b"S"),
-        Kind::Stochastic => Some(b"stochastic"),
-        Kind::System => Some(b"system"),
-        Kind::True => Some(b"true"),
-        Kind::U => Some(b"U"),
-        Kind::W => Some(b"W"),
-        Kind::X => Some(b"X"),
-        Kind::Name(_) | Kind::Quoted(_) | Kind::Whole(_) | Kind::Real(_) => None,
-    }
-}
-
-/// Whether a reserved word is of the language but not of this profile, which refuses it by name.
-#[tactic(auto, unfolding(crate::specs::Spelling::is_refused))]
-pub fn is_refused(kind: &Kind) -> bool
-    ensures { result ≡ is_refused kind.now }
-{
-    matches!(
-        kind,
-        Kind::A
-            | Kind::C
-            | Kind::E
-            | Kind::I
-            | Kind::R
-            | Kind::S
-            | Kind::W
-            | Kind::Clock
-            | Kind::Ctmc
-            | Kind::EndInit
-            | Kind::EndInvariant
-            | Kind::EndObservables
-            | Kind::EndSystem
-            | Kind::Filter
-            | Kind::Func
-            | Kind::Invariant
-            | Kind::Mdp
-            | Kind::Nondeterministic
-            | Kind::Observable
-            | Kind::Observables
-            | Kind::Of
-            | Kind::Pmax
-            | Kind::Pmin
-            | Kind::Pomdp
-            | Kind::Popta
-            | Kind::Prob
-            | Kind::Pta
-            | Kind::Rate
-            | Kind::Rmax
-            | Kind::Rmin
-            | Kind::Stochastic
-            | Kind::System
-    )
-}
-
-/// Whether this kind is spelled so.
-fn is_spelled(kind: &Kind, text: &[u8]) -> bool
-    ensures { result ≡ spells (spelling_of kind.now) text.now }
-{
-    match spelling(kind) {
-        Some(bytes) => bytes == text,
-        None => false,
-    }
-}
-
-/// Whether a text begins with the spelling of this kind.
-fn begins(kind: &Kind, text: &[u8]) -> bool
-    ensures { result ≡ begins (spelling_of kind.now) text.now }
-{
-    match spelling(kind) {
-        Some(bytes) => text.starts_with(bytes),
-        None => false,
-    }
-}
-
-/// The reserved words.
-const WORDS: [Kind; 55] = [
-    Kind::A,
-    Kind::Bool,
-    Kind::Clock,
-    Kind::Const,
-    Kind::Ctmc,
-    Kind::C,
-    Kind::Double,
-    Kind::Dtmc,
-    Kind::E,
-    Kind::EndInit,
-    Kind::EndInvariant,
-    Kind::EndModule,
-    Kind::EndObservables,
-    Kind::EndRewards,
-    Kind::EndSystem,
-    Kind::False,
-    Kind::Filter,
-    Kind::Formula,
-    Kind::Func,
-    Kind::F,
-    Kind::Global,
-    Kind::G,
-    Kind::I,
-    Kind::Init,
-    Kind::Int,
-    Kind::Invariant,
-    Kind::Label,
-    Kind::Max,
-    Kind::Mdp,
-    Kind::Min,
-    Kind::Module,
-    Kind::Nondeterministic,
-    Kind::Observable,
-    Kind::Observables,
-    Kind::Of,
-    Kind::P,
-    Kind::Pmax,
-    Kind::Pmin,
-    Kind::Pomdp,
-    Kind::Popta,
-    Kind::Prob,
-    Kind::Probabilistic,
-    Kind::Pta,
-    Kind::R,
-    Kind::Rate,
-    Kind::Rewards,
-    Kind::Rmax,
-    Kind::Rmin,
-    Kind::S,
-    Kind::Stochastic,
-    Kind::System,
-    Kind::True,
-    Kind::U,
-    Kind::W,
-    Kind::X,
-];
-
-/// The symbols, the longer ones first.
-const SYMBOLS: [Kind; 26] = [
-    Kind::Equivalent,
-    Kind::Dots,
-    Kind::NotEqual,
-    Kind::LessEqual,
-    Kind::GreaterEqual,
-    Kind::Arrow,
-    Kind::Implies,
-    Kind::Semicolon,
-    Kind::Colon,
-    Kind::Comma,
-    Kind::OpenBracket,
-    Kind::CloseBracket,
-    Kind::Open,
-    Kind::Close,
-    Kind::Prime,
-    Kind::Equal,
-    Kind::Less,
-    Kind::Greater,
-    Kind::Plus,
-    Kind::Dash,
-    Kind::Star,
-    Kind::Slash,
-    Kind::Ampersand,
-    Kind::Bar,
-    Kind::Bang,
-    Kind::Query,
-];
-
 /// The reserved word that a text is.
 pub fn word(text: &[u8]) -> Option<Kind>
-    ensures found { IfSome result (λ kind. spelling_of kind ≡ Some text.now) }
-    ensures none { IfNone result (IsWord text.now → IsFree text.now) }
+    ensures found { IfSome result (λ kind. IsReservedWord text.now kind) }
+    ensures none { (result ≡ None) ↔ IsNotReserved text.now }
 {
-    find_spelled(WORDS, text)
+    find_word(text)
 }
 
-/// The first of these kinds that is spelled so.
-fn find_spelled(kinds: [Kind; 55], text: &[u8]) -> Option<Kind>
-    ensures { result ≡ find (λ kind. spells (spelling_of kind) text.now) kinds }
+/// The reserved word that a text is, by its length.
+fn find_word(text: &[u8]) -> Option<Kind>
+    ensures { result ≡ lookup (bytes_eq text.now) (words_of (length text.now)) }
 {
-    for kind in kinds {
-        if is_spelled(&kind, text) {
-            return Some(kind);
-        }
+    match text.len() {
+        1 => one_letter_word(text),
+        4 => four_letter_word(text),
+        5 => five_letter_word(text),
+        6 | 7 => middle_word(text),
+        2 | 3 => short_word(text),
+        _ => long_word(text),
     }
-    None
 }
 
-/// The longest symbol with which a text begins.
-pub fn symbol(text: &[u8]) -> Option<Kind>
-    ensures found { IfSome result (λ kind. IsLongestSymbol text.now kind) }
-    ensures none { IfNone result (BeginsNoSymbol text.now) }
+/// Whether a text is this word.
+fn is(text: &[u8], word: &[u8]) -> bool
+    ensures { result ≡ bytes_eq text.now word.now }
 {
-    find_beginning(SYMBOLS, text)
+    text == word
 }
 
-/// The first of these kinds with whose spelling a text begins.
-fn find_beginning(kinds: [Kind; 26], text: &[u8]) -> Option<Kind>
-    ensures { result ≡ find (λ kind. begins (spelling_of kind) text.now) kinds }
+/// Which of the reserved words of one letter a text is.
+#[tactic(auto, unfolding(crate::specs::SpellingTables::one_letter_words))]
+fn one_letter_word(text: &[u8]) -> Option<Kind>
+    ensures { result ≡ lookup (bytes_eq text.now) one_letter_words }
 {
-    for kind in kinds {
-        if begins(&kind, text) {
-            return Some(kind);
-        }
+    if is(text, b"A") {
+        Some(Kind::A)
+    } else if is(text, b"C") {
+        Some(Kind::C)
+    } else if is(text, b"E") {
+        Some(Kind::E)
+    } else if is(text, b"F") {
+        Some(Kind::F)
+    } else if is(text, b"G") {
+        Some(Kind::G)
+    } else if is(text, b"I") {
+        Some(Kind::I)
+    } else if is(text, b"P") {
+        Some(Kind::P)
+    } else if is(text, b"R") {
+        Some(Kind::R)
+    } else if is(text, b"S") {
+        Some(Kind::S)
+    } else if is(text, b"U") {
+        Some(Kind::U)
+    } else if is(text, b"W") {
+        Some(Kind::W)
+    } else if is(text, b"X") {
+        Some(Kind::X)
+    } else {
+        None
     }
-    None
+}
+
+/// Which of the reserved words of four letters a text is.
+#[tactic(auto, unfolding(crate::specs::SpellingTables::four_letter_words))]
+fn four_letter_word(text: &[u8]) -> Option<Kind>
+    ensures { result ≡ lookup (bytes_eq text.now) four_letter_words }
+{
+    if is(text, b"bool") {
+        Some(Kind::Bool)
+    } else if is(text, b"ctmc") {
+        Some(Kind::Ctmc)
+    } else if is(text, b"dtmc") {
+        Some(Kind::Dtmc)
+    } else if is(text, b"func") {
+        Some(Kind::Func)
+    } else if is(text, b"init") {
+        Some(Kind::Init)
+    } else if is(text, b"Pmax") {
+        Some(Kind::Pmax)
+    } else if is(text, b"Pmin") {
+        Some(Kind::Pmin)
+    } else if is(text, b"prob") {
+        Some(Kind::Prob)
+    } else if is(text, b"rate") {
+        Some(Kind::Rate)
+    } else if is(text, b"Rmax") {
+        Some(Kind::Rmax)
+    } else if is(text, b"Rmin") {
+        Some(Kind::Rmin)
+    } else if is(text, b"true") {
+        Some(Kind::True)
+    } else {
+        None
+    }
+}
+
+/// Which of the reserved words of five letters a text is.
+#[tactic(auto, unfolding(crate::specs::SpellingTables::five_letter_words))]
+fn five_letter_word(text: &[u8]) -> Option<Kind>
+    ensures { result ≡ lookup (bytes_eq text.now) five_letter_words }
+{
+    if is(text, b"clock") {
+        Some(Kind::Clock)
+    } else if is(text, b"const") {
+        Some(Kind::Const)
+    } else if is(text, b"false") {
+        Some(Kind::False)
+    } else if is(text, b"label") {
+        Some(Kind::Label)
+    } else if is(text, b"pomdp") {
+        Some(Kind::Pomdp)
+    } else if is(text, b"popta") {
+        Some(Kind::Popta)
+    } else {
+        None
+    }
+}
+
+/// Which of the reserved words of six and seven letters a text is.
+#[tactic(auto, unfolding(crate::specs::SpellingTables::middle_words))]
+fn middle_word(text: &[u8]) -> Option<Kind>
+    ensures { result ≡ lookup (bytes_eq text.now) middle_words }
+{
+    if is(text, b"double") {
+        Some(Kind::Double)
+    } else if is(text, b"endinit") {
+        Some(Kind::EndInit)
+    } else if is(text, b"filter") {
+        Some(Kind::Filter)
+    } else if is(text, b"formula") {
+        Some(Kind::Formula)
+    } else if is(text, b"global") {
+        Some(Kind::Global)
+    } else if is(text, b"module") {
+        Some(Kind::Module)
+    } else if is(text, b"rewards") {
+        Some(Kind::Rewards)
+    } else if is(text, b"system") {
+        Some(Kind::System)
+    } else {
+        None
+    }
+}
+
+/// Which of the reserved words of two and three letters a text is.
+#[tactic(auto, unfolding(crate::specs::SpellingTables::short_words))]
+fn short_word(text: &[u8]) -> Option<Kind>
+    ensures { result ≡ lookup (bytes_eq text.now) short_words }
+{
+    if is(text, b"int") {
+        Some(Kind::Int)
+    } else if is(text, b"max") {
+        Some(Kind::Max)
+    } else if is(text, b"mdp") {
+        Some(Kind::Mdp)
+    } else if is(text, b"min") {
+        Some(Kind::Min)
+    } else if is(text, b"of") {
+        Some(Kind::Of)
+    } else if is(text, b"pta") {
+        Some(Kind::Pta)
+    } else {
+        None
+    }
+}
+
+/// Which of the reserved words of eight letters and more a text is.
+#[tactic(auto, unfolding(crate::specs::SpellingTables::long_words))]
+fn long_word(text: &[u8]) -> Option<Kind>
+    ensures { result ≡ lookup (bytes_eq text.now) long_words }
+{
+    if is(text, b"endinvariant") {
+        Some(Kind::EndInvariant)
+    } else if is(text, b"endmodule") {
+        Some(Kind::EndModule)
+    } else if is(text, b"endobservables") {
+        Some(Kind::EndObservables)
+    } else if is(text, b"endrewards") {
+        Some(Kind::EndRewards)
+    } else if is(text, b"endsystem") {
+        Some(Kind::EndSystem)
+    } else if is(text, b"invariant") {
+        Some(Kind::Invariant)
+    } else if is(text, b"nondeterministic") {
+        Some(Kind::Nondeterministic)
+    } else if is(text, b"observable") {
+        Some(Kind::Observable)
+    } else if is(text, b"observables") {
+        Some(Kind::Observables)
+    } else if is(text, b"probabilistic") {
+        Some(Kind::Probabilistic)
+    } else if is(text, b"stochastic") {
+        Some(Kind::Stochastic)
+    } else {
+        None
+    }
 }

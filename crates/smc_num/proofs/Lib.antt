@@ -1,5 +1,6 @@
 pub mod GcdLemmas
 pub mod LowestLemmas
+pub mod WideLemmas
 pub mod SignedLemmas
 pub mod SumLemmas
 pub mod ProductLemmas

@@ -20,7 +20,8 @@ unsigned_abs-signed false size = refl
 unsigned_abs-signed true zero = refl
 unsigned_abs-signed true (suc size) = refl
 
-int_div-signed : (negative : Bool) (size by : ℕ) → int_div (signed negative size) (pos by) ≡ signed negative (size / by)
+-- a part of a number has its sign
+pub int_div-signed : (negative : Bool) (size by : ℕ) → int_div (signed negative size) (pos by) ≡ signed negative (size / by)
 int_div-signed false size by = refl
 int_div-signed true zero by = rw zero-div
 int_div-signed true (suc size) by = refl

@@ -11,7 +11,7 @@ mod texts;
 pub use euclid::gcd;
 pub use fault::{NumFault, ReadNum};
 pub use fraction::{Frac, ceil, common, floor, read};
-pub use laws::{gcd_law, lcm_law, lowest_law};
+pub use laws::{gcd_law, lcm_law, lowest_law, wide_law};
 pub use remainders::modulo;
 pub use texts::Text;
 

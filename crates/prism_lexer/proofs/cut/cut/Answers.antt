@@ -1,7 +1,8 @@
 use Rattle.std.proofs.Common.{◌≡◌, ◌≢◌, ◌-◌, ◌==◌, true, false, [], ◌∷◌, ◌++◌, length, sym, ◌∙◌, ap, subst, eq-eqb, arith, rules}
 use Rattle.std.proofs.lemmas.Bool.{eqb-true}
 use Rattle.std.proofs.lemmas.List.{nil_from_length}
-use Rattle.prism_lexer.specs.Answers.{token_limit, IsCutting}
+use Rattle.prism_lexer.specs.Outcome.{token_limit}
+use Rattle.prism_lexer.specs.Steps.{IsCutting}
 use Rattle.prism_lexer.proofs.CutLemmas.{cutting_next, cutting_fault, cutting_end, next_shorter, not_full}
 use Rattle.prism_lexer.proofs.cut.cut.Goals as goal
 

@@ -1,5 +1,5 @@
 use Rattle.std.proofs.Common.{length}
-use Rattle.prism_lexer.specs.Answers.{IsCutting}
+use Rattle.prism_lexer.specs.Steps.{IsCutting}
 use Rattle.prism_lexer.proofs.cut.cut.Given as goal
 
 abbrev pub invariant-loop-rest : goal.invariant-loop-rest

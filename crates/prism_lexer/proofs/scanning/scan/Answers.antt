@@ -7,8 +7,8 @@ returns-in-Some-clause-found c = varied_front c.args.text.now c.in-Some.front.0 
 
 pub returns-in-None-clause-found : goal.returns-in-None-clause-found
 returns-in-None-clause-found c =
-    symbol_found_front c.args.text.now c.symbol_front.result (varied_none c.args.text.now (sym c.varied.ensures ∙ c.in-None.is)) c.symbol_front.ensures.found
+    symbol_found_front c.args.text.now c.symbol_lexeme.result (varied_none c.args.text.now (sym c.varied.ensures ∙ c.in-None.is)) c.symbol_lexeme.ensures.found
 
 pub returns-in-None-clause-none : goal.returns-in-None-clause-none
 returns-in-None-clause-none c =
-    symbol_none_front c.args.text.now c.symbol_front.result (varied_none c.args.text.now (sym c.varied.ensures ∙ c.in-None.is)) c.symbol_front.ensures.none
+    symbol_none_front c.args.text.now c.symbol_lexeme.result (varied_none c.args.text.now (sym c.varied.ensures ∙ c.in-None.is)) c.symbol_lexeme.ensures.none

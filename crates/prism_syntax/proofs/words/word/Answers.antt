@@ -1,11 +1,8 @@
-use Rattle.prism_syntax.specs.Spelling.{words}
 use Rattle.prism_syntax.proofs.SpellingLemmas.{word_found, word_none}
 use Rattle.prism_syntax.proofs.words.word.Goals as goal
 
 pub returns-clause-found : goal.returns-clause-found
-unfolding words
-returns-clause-found c = word_found c.args.text.now c.find_spelled.result c.find_spelled.ensures
+returns-clause-found c = word_found c.args.text.now c.find_word.result c.find_word.ensures
 
 pub returns-clause-none : goal.returns-clause-none
-unfolding words
-returns-clause-none c = word_none c.args.text.now c.find_spelled.result c.find_spelled.ensures
+returns-clause-none c = word_none c.args.text.now c.find_word.result c.find_word.ensures

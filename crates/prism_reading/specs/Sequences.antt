@@ -1,0 +1,24 @@
+-- Rules that are made of others: single tokens, one rule after another, a rule with its end.
+use Rattle.std.specs.Prelude.{◌≡◌, ℕ, List, ◌++◌, ◌∷◌, []}
+use Rattle.prism_syntax.specs.declared.tokens.Kind.{Kind}
+use Rattle.prism_syntax.specs.declared.tokens.Kind.TheVariants as k
+
+-- the one token of this kind
+pub data IsTerminal (kind : Kind) : List Kind → Unit {0} → Type 0 where
+  terminal : IsTerminal kind (kind ∷ []) tt
+
+-- a name
+pub data IsName : List Kind → List ℕ → Type 0 where
+  name : {text : List ℕ} → IsName (k.Name text ∷ []) text
+
+-- the name of a label
+pub data IsQuoted : List Kind → List ℕ → Type 0 where
+  quoted : {text : List ℕ} → IsQuoted (k.Quoted text ∷ []) text
+
+-- a text of one rule, and then one of another
+pub data Both {X Y : Type 0} (First : List Kind → X → Type 0) (Second : List Kind → Y → Type 0) : List Kind → X × Y → Type 0 where
+  both : {a b : List Kind} {x : X} {y : Y} → First a x → Second b y → Both First Second (a ++ b) (x, y)
+
+-- a text of a rule, and then the one token that ends it
+pub data Ended {X : Type 0} (Rule : List Kind → X → Type 0) (end : Kind) : List Kind → X → Type 0 where
+  ended : {a : List Kind} {x : X} → Rule a x → Ended Rule end (a ++ (end ∷ [])) x
