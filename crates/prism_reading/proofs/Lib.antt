@@ -1,2 +1,3 @@
 pub mod ReachLemmas
 pub mod TerminalLemmas
+pub mod KindLemmas
