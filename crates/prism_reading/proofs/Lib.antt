@@ -1,3 +1,5 @@
+pub mod ReachLemmas
+pub mod TerminalLemmas
 pub mod OverlapLemmas
 pub mod DefiniteLemmas
 pub mod BothLemmas

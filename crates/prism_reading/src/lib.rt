@@ -5,4 +5,4 @@ mod mismatch;
 mod terminals;
 
 pub use mismatch::Mismatch;
-pub use terminals::{accept, expect};
+pub use terminals::{accept, expect, name, quoted};
