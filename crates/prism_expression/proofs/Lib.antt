@@ -5,3 +5,9 @@ pub mod TwoConditionalLemmas
 pub mod TwoPrimaryLemmas
 pub mod CompareLemmas
 pub mod FormedLemmas
+pub mod FoundLemmas
+pub mod NextLemmas
+pub mod ChainLemmas
+pub mod TruthLemmas
+pub mod UntilLemmas
+pub mod SignLemmas

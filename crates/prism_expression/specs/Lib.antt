@@ -1,2 +1,3 @@
 pub mod Longest
 pub mod Follow
+pub mod Parts
