@@ -11,3 +11,4 @@ pub mod ChainLemmas
 pub mod TruthLemmas
 pub mod UntilLemmas
 pub mod SignLemmas
+pub mod ConditionalLemmas

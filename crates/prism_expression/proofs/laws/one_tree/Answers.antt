@@ -1,5 +1,6 @@
 use Rattle.prism_expression.proofs.CompareLemmas
 use Rattle.prism_expression.proofs.TruthLemmas
+use Rattle.prism_expression.proofs.ConditionalLemmas
 use Rattle.prism_expression.proofs.UntilLemmas
 use Rattle.prism_expression.proofs.SignLemmas
 use Rattle.prism_expression.proofs.ChainLemmas
