@@ -12,3 +12,5 @@ pub mod TruthLemmas
 pub mod UntilLemmas
 pub mod SignLemmas
 pub mod ConditionalLemmas
+pub mod CallLemmas
+pub mod PrimaryLemmas

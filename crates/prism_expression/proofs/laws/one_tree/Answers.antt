@@ -1,5 +1,7 @@
 use Rattle.prism_expression.proofs.CompareLemmas
 use Rattle.prism_expression.proofs.TruthLemmas
+use Rattle.prism_expression.proofs.CallLemmas
+use Rattle.prism_expression.proofs.PrimaryLemmas
 use Rattle.prism_expression.proofs.ConditionalLemmas
 use Rattle.prism_expression.proofs.UntilLemmas
 use Rattle.prism_expression.proofs.SignLemmas
