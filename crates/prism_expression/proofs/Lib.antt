@@ -14,3 +14,4 @@ pub mod SignLemmas
 pub mod ConditionalLemmas
 pub mod CallLemmas
 pub mod PrimaryLemmas
+pub mod AnswerLemmas

@@ -1,5 +1,6 @@
 use Rattle.prism_expression.proofs.CompareLemmas
 use Rattle.prism_expression.proofs.TruthLemmas
+use Rattle.prism_expression.proofs.AnswerLemmas
 use Rattle.prism_expression.proofs.CallLemmas
 use Rattle.prism_expression.proofs.PrimaryLemmas
 use Rattle.prism_expression.proofs.ConditionalLemmas
