@@ -28,7 +28,7 @@ use Rattle.prism_expression.proofs.NextLemmas.{other_text, next_text}
 -- ---- the rest of some arguments
 
 -- a function that takes more arguments may take one more
-takes_next : (g : Func) (n m : ℕ) → takes g (n + suc m) ≡ true → takes g (n + 1) ≡ true
+pub takes_next : (g : Func) (n m : ℕ) → takes g (n + suc m) ≡ true → takes g (n + 1) ≡ true
 takes_next f.Min n m holds = grind (arith, nat_tests)
 takes_next f.Max n m holds = grind (arith, nat_tests)
 takes_next f.Floor n m holds = grind (arith, nat_tests)
@@ -99,7 +99,7 @@ least_rest labels f.Pow = one_more f.Pow refl
 least_rest labels f.Mod = one_more f.Mod refl
 
 -- what begins an argument begins the arguments
-argument_begins : {labels : Labels} (g : Func) {p : List Kind} → IsPrefix (Derives labels rule.Conditional) p → IsPrefix (IsArguments labels g) p
+pub argument_begins : {labels : Labels} (g : Func) {p : List Kind} → IsPrefix (Derives labels rule.Conditional) p → IsPrefix (IsArguments labels g) p
 argument_begins {labels = labels} g {p = p} begins =
     let least = least_rest labels g in
     record {
@@ -181,13 +181,13 @@ arguments_first {labels = labels} {g = g} {ts = ts} {next = next} {n = n} told =
     prefix_at p r is begins h xs (arguments {a = a} {b = b} one more) equal = rest_prefix p begins.more a b r told one more equal is
 
 -- a further argument at the end
-arguments_more : {labels : Labels} {b : List Kind} {ys : List Expr} (a : List Kind) (y : Expr) → Arguments labels b ys → Derives labels rule.Conditional a y → Arguments labels (b ++ (k.Comma ∷ a)) (ys ++ (y ∷ []))
+pub arguments_more : {labels : Labels} {b : List Kind} {ys : List Expr} (a : List Kind) (y : Expr) → Arguments labels b ys → Derives labels rule.Conditional a y → Arguments labels (b ++ (k.Comma ∷ a)) (ys ++ (y ∷ []))
 arguments_more {labels = labels} a y last text = subst (λ v. Arguments labels (k.Comma ∷ v) (y ∷ [])) (append-nil a) (argument text last)
 arguments_more {labels = labels} a y (argument {a = c} {b = d} {y = z} {ys = zs} first more) text =
     subst (λ v. Arguments labels (k.Comma ∷ v) (z ∷ (zs ++ (y ∷ [])))) (sym (append_assoc c d (k.Comma ∷ a))) (argument first (arguments_more a y more text))
 
 -- a comma and what begins an argument after it begin the arguments
-comma_begins : {labels : Labels} {g : Func} {p a b : List Kind} {x : Expr} {ys : List Expr} → Derives labels rule.Conditional a x → Arguments labels b ys → takes g (length ys + 1) ≡ true
+pub comma_begins : {labels : Labels} {g : Func} {p a b : List Kind} {x : Expr} {ys : List Expr} → Derives labels rule.Conditional a x → Arguments labels b ys → takes g (length ys + 1) ≡ true
     → IsPrefix (Derives labels rule.Conditional) p → IsPrefix (IsArguments labels g) (((a ++ b) ++ (k.Comma ∷ [])) ++ p)
 comma_begins {labels = labels} {g = g} {p = p} {a = a} {b = b} {x = x} {ys = ys} first others fits begins = record {
   more = begins.more ++ (k.Close ∷ []);

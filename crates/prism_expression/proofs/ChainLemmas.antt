@@ -34,14 +34,14 @@ begun_stops : {labels : Labels} {l : Precedence} {c : List Kind} → is_chain l 
 begun_stops is_true begins t d is goes = tail_stops is_true begins.tail t (d ++ begins.more) (ap (λ v. v ++ begins.more) is) goes
 
 -- a further operand at the end
-tail_more : {labels : Labels} {l : Precedence} {b : List Kind} {ys : List Expr} {os : List Op} (t : Kind) (o : Op) (a : List Kind) (y : Expr) → ChainTail labels l b ys os → operator l t ≡ Some o → Derives labels (inner l) a y
+pub tail_more : {labels : Labels} {l : Precedence} {b : List Kind} {ys : List Expr} {os : List Op} (t : Kind) (o : Op) (a : List Kind) (y : Expr) → ChainTail labels l b ys os → operator l t ≡ Some o → Derives labels (inner l) a y
     → ChainTail labels l (b ++ (t ∷ a)) (ys ++ (y ∷ [])) (os ++ (o ∷ []))
 tail_more {labels = labels} {l = l} t o a y end found text = subst (λ v. ChainTail labels l (t ∷ v) (y ∷ []) (o ∷ [])) (append-nil a) (link found text end)
 tail_more {labels = labels} {l = l} t o a y (link {t = u} {o = p} {a = c} {b = d} {y = z} {ys = zs} {os = ps} is operand tail) found text =
     subst (λ v. ChainTail labels l (u ∷ v) (z ∷ (zs ++ (y ∷ []))) (p ∷ (ps ++ (o ∷ [])))) (sym (append_assoc c d (t ∷ a))) (link is operand (tail_more t o a y tail found text))
 
 -- an operand begins a chain
-operand_begins : {labels : Labels} {l : Precedence} {f : List Kind} → is_chain l ≡ true → IsPrefix (Derives labels (inner l)) f → IsPrefix (Derives labels l) f
+pub operand_begins : {labels : Labels} {l : Precedence} {f : List Kind} → is_chain l ≡ true → IsPrefix (Derives labels (inner l)) f → IsPrefix (Derives labels l) f
 operand_begins {labels = labels} {l = l} {f = f} is_true begins = record {
   more = begins.more; tree = begins.tree;
   text = subst (λ v. Derives labels l v begins.tree) (append-nil (f ++ begins.more)) (chain is_true begins.text end);
@@ -113,7 +113,7 @@ chain_first {rest = rest} is_true told = record {
 }
 
 -- an operator and what begins an operand after it begin the chain
-operator_begins : {labels : Labels} {l : Precedence} {f a b : List Kind} {x : Expr} {ys : List Expr} {os : List Op} (t : Kind) (o : Op) → is_chain l ≡ true → Derives labels (inner l) a x → ChainTail labels l b ys os
+pub operator_begins : {labels : Labels} {l : Precedence} {f a b : List Kind} {x : Expr} {ys : List Expr} {os : List Op} (t : Kind) (o : Op) → is_chain l ≡ true → Derives labels (inner l) a x → ChainTail labels l b ys os
     → operator l t ≡ Some o → IsPrefix (Derives labels (inner l)) f → IsPrefix (Derives labels l) (((a ++ b) ++ (t ∷ [])) ++ f)
 operator_begins {labels = labels} {l = l} {f = f} {a = a} {b = b} {x = x} {ys = ys} {os = os} t o is_true operand tail found begins = record {
   more = begins.more;

@@ -15,3 +15,4 @@ pub mod ConditionalLemmas
 pub mod CallLemmas
 pub mod PrimaryLemmas
 pub mod AnswerLemmas
+pub mod BeginLemmas

@@ -87,7 +87,7 @@ paren_text_at is f r y cut text = let p = after_text k.Open f r y is cut text in
 
 -- ---- calls
 
-called_call : {labels : Labels} {t : Kind} {f : Func} {g : List Kind} {xs : List Expr} → function t ≡ Some f → IsCalled labels f g xs → Derives labels rule.Primary (t ∷ g) (e.Call f xs)
+pub called_call : {labels : Labels} {t : Kind} {f : Func} {g : List Kind} {xs : List Expr} → function t ≡ Some f → IsCalled labels f g xs → Derives labels rule.Primary (t ∷ g) (e.Call f xs)
 called_call {f = f} is (called (arguments {ys = ys} first (rest fits more))) = let same : length ys ≡ 0 + length ys = omega arith in call is (ap (takes f) same ∙ fits) first more
 
 named : {labels : Labels} {t : Kind} {f : Func} {g : List Kind} → function t ≡ Some f → After labels t g → (g ≡ []) ⊎ ((xs : List Expr) × IsCalled labels f g xs)

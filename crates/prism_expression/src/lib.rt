@@ -11,6 +11,6 @@ mod primaries;
 mod signs;
 mod trees;
 
-pub use laws::one_tree;
+pub use laws::{begins_exactly, one_tree};
 pub use longest::Longest;
 pub use parsing::{expression_until, parse_longest};

@@ -25,11 +25,11 @@ chains::chain-loop-operator-init t c = chain_begins c.requires c.inner.ensures c
 
 pub chains::chain-loop-operator-preserved : goal.chains::chain-loop-operator-preserved
 chains::chain-loop-operator-preserved t c =
-    chain_goes_on c.requires c.inner-in-Some.ensures c.in_ok-push-in-Ok.ensures.ok c.in_ok-push-in-Ok-2.ensures.ok ? c.loop-operator.invariant c.in-Some.ensures c.in-Ok.ensures
+    chain_goes_on c.requires c.inner-in-Some.ensures c.in_ok-push-in-Ok.ensures.ok c.in_ok-push-in-Ok-2.ensures.ok c.min-left.ensures c.loop-operator.invariant c.in-Some.ensures c.in-Ok.ensures
 
 pub chains::chain-returns-in-Err-NoText : goal.chains::chain-returns-in-Err-NoText
 chains::chain-returns-in-Err-NoText t c =
-    chain_stops c.requires c.inner-in-Some.ensures c.in_ok-tree-in-Err-NoText.ensures ? c.loop-operator.invariant c.in-Some.ensures
+    chain_stops c.requires c.inner-in-Some.ensures c.in_ok-tree-in-Err-NoText.ensures (cc (c.min-left-in-Err-NoText.ensures, c.in-Err-NoText.wrong-is)) c.loop-operator.invariant c.in-Some.ensures
     (told_left (Fails (Derives c.args.labels c.inner-in-Some.result) Anything c.in-Some.after.now) c.in-Err-NoText.field-0 c.in-Err-NoText.wrong c.in-Err-NoText.field-0-is c.in-Err-NoText.ensures)
 
 pub chains::chain-returns : goal.chains::chain-returns
@@ -69,11 +69,11 @@ conditionals::conditional-returns-in_err-condition t c =
     c.from_residual.result c.in_err-condition.field-0.0 c.from_residual.ensures.1 conditional_fails c.in_err-condition.ensures
 
 pub conditionals::conditional-returns-in-Ok : goal.conditionals::conditional-returns-in-Ok
-conditionals::conditional-returns-in-Ok t c = conditional_whole ? ? c.in_ok-condition.ensures c.in-Ok.ensures
+conditionals::conditional-returns-in-Ok t c = conditional_whole c.in_ok-chosen-in-Ok.ensures c.min.ensures c.in_ok-condition.ensures c.in-Ok.ensures
 
 pub conditionals::conditional-returns-in-Err-NoText : goal.conditionals::conditional-returns-in-Err-NoText
 conditionals::conditional-returns-in-Err-NoText t c =
-    conditional_alone ? c.in_ok-condition.ensures
+    conditional_alone (cc (c.min-in-Err-NoText.ensures, c.in-Err-NoText.left-is)) c.in_ok-condition.ensures
     (told_left (Fails (IsBranches c.args.labels) Anything c.in_ok-condition.condition.rest.now) c.in-Err-NoText.field-0 c.in-Err-NoText.left c.in-Err-NoText.field-0-is c.in-Err-NoText.ensures)
 
 -- ---- a text up to a token
@@ -87,7 +87,7 @@ pub parsing::expression_until-returns-in-Some : goal.parsing::expression_until-r
 parsing::expression_until-returns-in-Some t c = until_ended c.requires c.in_ok-longest.ensures c.in-Some.ensures
 
 pub parsing::expression_until-returns : goal.parsing::expression_until-returns
-parsing::expression_until-returns t c = until_unended c.requires c.in_ok-longest.ensures ?
+parsing::expression_until-returns t c = until_unended c.requires c.in_ok-longest.ensures c.in-None.ensures
 
 -- ---- calls
 
@@ -100,18 +100,18 @@ pub calls::arguments-loop-after-init : goal.calls::arguments-loop-after-init
 calls::arguments-loop-after-init t c = arguments_begin c.args.function c.new-more.ensures c.in_ok-first.ensures
 
 pub calls::arguments-loop-after-preserved : goal.calls::arguments-loop-after-preserved
-calls::arguments-loop-after-preserved t c = arguments_go_on ? c.in_ok-push.ensures.ok ? c.loop-after.invariant c.in-Some.ensures c.in-Ok.ensures
+calls::arguments-loop-after-preserved t c = arguments_go_on c.len.ensures c.in_ok-push-in-Ok.ensures.ok c.min-left.ensures c.loop-after.invariant c.in-Some.ensures c.in-Ok.ensures
 
 pub calls::arguments-returns-in-Err-NoText : goal.calls::arguments-returns-in-Err-NoText
 calls::arguments-returns-in-Err-NoText t c =
-    arguments_stop ? ? c.loop-after.invariant c.in-Some.ensures
+    arguments_stop c.len.ensures (cc (c.min.ensures, c.in-Err-NoText.wrong-is)) c.loop-after.invariant c.in-Some.ensures
     (told_left (Fails (Derives c.args.labels rule.Conditional) Anything c.in-Some.after.now) c.in-Err-NoText.field-0 c.in-Err-NoText.wrong c.in-Err-NoText.field-0-is c.in-Err-NoText.ensures)
 
 pub calls::arguments-returns-in-Some-accept_close : goal.calls::arguments-returns-in-Some-accept_close
-calls::arguments-returns-in-Some-accept_close t c = arguments_close c.args.function ? ? c.loop-after.invariant c.in-Some-accept_close.ensures
+calls::arguments-returns-in-Some-accept_close t c = arguments_close c.args.function c.len-2.ensures c.in_ok-preceded-in-Some-accept_close.ensures c.loop-after.invariant c.in-Some-accept_close.ensures
 
 pub calls::arguments-returns : goal.calls::arguments-returns
-calls::arguments-returns t c = arguments_unclosed c.args.function c.loop-after.rest.now ? ? c.loop-after.invariant c.in_default.ensures ?
+calls::arguments-returns t c = arguments_unclosed c.args.function c.loop-after.rest.now c.len.ensures c.len-2.ensures c.loop-after.invariant c.in_default.ensures c.in-None.ensures
 
 pub calls::call-returns-in-Some : goal.calls::call-returns-in-Some
 calls::call-returns-in-Some t c = answers_more c.arguments.result (λ value told. called_parses c.in-Some.ensures told) (λ left fails. called_fails c.in-Some.ensures left fails) c.arguments.ensures
@@ -127,22 +127,24 @@ primaries::primary-returns-in_err-tree t c =
     c.from_residual.result c.in_err-tree.field-0.0 c.from_residual.ensures.1 (paren_fails c.in-Some.ensures) c.in_err-tree.ensures
 
 pub primaries::primary-returns-in-Some : goal.primaries::primary-returns-in-Some
-primaries::primary-returns-in-Some t c = paren_whole ? c.in-Some.ensures c.in_ok-tree.ensures
+primaries::primary-returns-in-Some t c = paren_whole c.in_ok-new.ensures c.in-Some.ensures c.in_ok-tree.ensures
 
 pub primaries::primary-returns-in_default-split_first : goal.primaries::primary-returns-in_default-split_first
 primaries::primary-returns-in_default-split_first t c = primary_nothing c.args.tokens.now c.in_default-split_first.ensures.cases
 
 pub primaries::primary-returns-in-Some-2 : goal.primaries::primary-returns-in-Some-2
-primaries::primary-returns-in-Some-2 t c = leaf_whole c.in-Some-split_first.first.now c.in-Some-split_first.ensures.cases.0 ? ?
+primaries::primary-returns-in-Some-2 t c = leaf_whole c.in-Some-split_first.first.now c.in-Some-split_first.ensures.cases.0 (sym c.in_ok-tree-2.ensures ∙ c.in-Some-2.is) (sym c.function.ensures ∙ c.in_default-function.is)
 
 pub primaries::primary-returns-in-None : goal.primaries::primary-returns-in-None
-primaries::primary-returns-in-None t c = leaf_fails c.in-Some-split_first.first.now c.in-Some-split_first.ensures.cases.0 c.in_default.ensures ? ?
+primaries::primary-returns-in-None t c = leaf_fails c.in-Some-split_first.first.now c.in-Some-split_first.ensures.cases.0 c.in_default.ensures (sym c.in_ok-tree-2.ensures ∙ c.in-None.is) (sym c.function.ensures ∙ c.in_default-function.is)
 
 pub primaries::primary-returns-in-Ok : goal.primaries::primary-returns-in-Ok
-primaries::primary-returns-in-Ok t c = call_whole c.in-Some-split_first.first.now c.in-Some-split_first.ensures.cases.0 ? c.in-Ok.ensures
+primaries::primary-returns-in-Ok t c = call_whole c.in-Some-split_first.first.now c.in-Some-split_first.ensures.cases.0 (sym c.in-Some-function.ensures) c.in-Ok.ensures
 
 pub primaries::primary-returns-in-Some-3 : goal.primaries::primary-returns-in-Some-3
-primaries::primary-returns-in-Some-3 t c = name_whole c.in-Some-split_first.first.now c.in-Some-split_first.ensures.cases.0 ? ? ?
+primaries::primary-returns-in-Some-3 t c = name_whole c.in-Some-split_first.first.now c.in-Some-split_first.ensures.cases.0 (sym c.in-Some-function.ensures) (sym c.in_ok-tree-in-Err-NoText.ensures ∙ c.in-Some-3.is)
+    (told_left (Fails (IsCalled c.args.labels c.in-Some-function.function) Anything c.in-Some-split_first.rest.now) c.in-Err-NoText.field-0 c.in-Err-NoText.left c.in-Err-NoText.field-0-is c.in-Err-NoText.ensures)
 
 pub primaries::primary-returns-in-None-2 : goal.primaries::primary-returns-in-None-2
-primaries::primary-returns-in-None-2 t c = word_fails c.in-Some-split_first.first.now c.in-Some-split_first.ensures.cases.0 ? ? ?
+primaries::primary-returns-in-None-2 t c = word_fails c.in-Some-split_first.first.now c.in-Some-split_first.ensures.cases.0 (sym c.in-Some-function.ensures) (sym c.in_ok-tree-in-Err-NoText.ensures ∙ c.in-None-2.is)
+    (told_left (Fails (IsCalled c.args.labels c.in-Some-function.function) Anything c.in-Some-split_first.rest.now) c.in-Err-NoText.field-0 c.in-Err-NoText.left c.in-Err-NoText.field-0-is c.in-Err-NoText.ensures)
