@@ -30,9 +30,9 @@ moved : {X : Type 0} {Rule : List Kind → X → Type 0} {a b : List Kind} → a
 moved {Rule = Rule} is begins = subst (λ v. IsPrefix Rule v) is begins
 
 -- an operator after a chain
-after_chain : {labels : Labels} {l : Precedence} {a b : List Kind} {x : Expr} {t : Kind} {o : Op} → is_chain l ≡ true → ChainText labels l a x → operator l t ≡ Some o → IsPrefix (Derives labels (inner l)) b
+after_chain : {labels : Labels} {l : Precedence} {a b : List Kind} {x : Expr} {o : Op} (t : Kind) → is_chain l ≡ true → ChainText labels l a x → operator l t ≡ Some o → IsPrefix (Derives labels (inner l)) b
     → IsPrefix (Derives labels l) (a ++ (t ∷ b))
-after_chain {b = b} {t = t} {o = o} is_true (chain_text {a = c} {b = d} operand tail) found begins = moved (append_assoc (c ++ d) (t ∷ []) b) (operator_begins t o is_true operand tail found begins)
+after_chain {b = b} {o = o} t is_true (chain_text {a = c} {b = d} operand tail) found begins = moved (append_assoc (c ++ d) (t ∷ []) b) (operator_begins t o is_true operand tail found begins)
 
 -- the arguments of a call behind its name
 in_call : {labels : Labels} {t : Kind} {f : Func} {p : List Kind} → function t ≡ Some f → IsPrefix (IsArguments labels f) p → IsPrefix (Derives labels rule.Primary) (t ∷ (k.Open ∷ p))
@@ -42,7 +42,7 @@ pub begins_prefix : {labels : Labels} {l : Precedence} {f : List Kind} → Begin
 begins_prefix {labels = labels} {l = l} empty = derives_nothing labels l
 begins_prefix {labels = labels} {l = l} (whole {a = a} {x = x} text) = whole_prefix (Derives labels l) a x text
 begins_prefix (in_first is_true begins) = operand_begins is_true (begins_prefix begins)
-begins_prefix (in_operand is_true text found begins) = after_chain is_true (chain_texts is_true text) found (begins_prefix begins)
+begins_prefix (in_operand t is_true text found begins) = after_chain t is_true (chain_texts is_true text) found (begins_prefix begins)
 begins_prefix (in_bare is_true begins) = let p = begins_prefix begins in record { more = p.more; tree = p.tree; text = bare is_true p.text }
 begins_prefix {l = l} (in_signed is_true begins) = let p = begins_prefix begins in record { more = p.more; tree = signed l p.tree; text = sign is_true p.text }
 begins_prefix (in_condition begins) = let p = begins_prefix begins in record { more = p.more; tree = p.tree; text = plain p.text }
@@ -131,7 +131,7 @@ mutual
   tail_begun h is_true text end (u ∷ c) more is = absurd (cc)
   tail_begun {labels = labels} {l = l} h is_true text (link {t = t} {o = o} {a = a} {b = b} {y = y} found operand tail) (u ∷ c) more is =
       begun (ap (λ v. h ++ (v ∷ c)) (sym (heads is)))
-      (⊎_elim (λ within. in_operand is_true text found (prefix_begun operand c within.0 (sym within.1)))
+      (⊎_elim (λ within. in_operand t is_true text found (prefix_begun operand c within.0 (sym within.1)))
         (λ beyond.
           let longer = chain_more t o is_true (chain_texts is_true text) found operand in
           begun (append_assoc h (t ∷ a) beyond.0 ∙ ap (λ v. h ++ (t ∷ v)) (sym beyond.1)) (tail_begun (h ++ (t ∷ a)) is_true longer.1 tail beyond.0 more (sym beyond.2)))

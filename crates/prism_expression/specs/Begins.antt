@@ -17,7 +17,7 @@ pub data Begins (labels : Labels) : Precedence → List Kind → Type 0 where
   empty : {p : Precedence} → Begins labels p []
   whole : {p : Precedence} {a : List Kind} {x : Expr} → Derives labels p a x → Begins labels p a
   in_first : {p : Precedence} {a : List Kind} → is_chain p ≡ true → Begins labels (inner p) a → Begins labels p a
-  in_operand : {p : Precedence} {t : Kind} {o : Op} {a b : List Kind} {x : Expr}
+  in_operand : {p : Precedence} (t : Kind) {o : Op} {a b : List Kind} {x : Expr}
       → is_chain p ≡ true → Derives labels p a x → operator p t ≡ Some o → Begins labels (inner p) b → Begins labels p (a ++ (t ∷ b))
   in_bare : {p : Precedence} {a : List Kind} → is_prefix p ≡ true → Begins labels (inner p) a → Begins labels p a
   in_signed : {p : Precedence} {t : Kind} {a : List Kind} → is_sign p t ≡ true → Begins labels p a → Begins labels p (t ∷ a)

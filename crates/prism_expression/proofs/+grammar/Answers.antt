@@ -142,9 +142,13 @@ pub primaries::primary-returns-in-Ok : goal.primaries::primary-returns-in-Ok
 primaries::primary-returns-in-Ok t c = call_whole c.in-Some-split_first.first.now c.in-Some-split_first.ensures.cases.0 (sym c.in-Some-function.ensures) c.in-Ok.ensures
 
 pub primaries::primary-returns-in-Some-3 : goal.primaries::primary-returns-in-Some-3
-primaries::primary-returns-in-Some-3 t c = name_whole c.in-Some-split_first.first.now c.in-Some-split_first.ensures.cases.0 (sym c.in-Some-function.ensures) (sym c.in_ok-tree-in-Err-NoText.ensures ∙ c.in-Some-3.is)
-    (told_left (Fails (IsCalled c.args.labels c.in-Some-function.function) Anything c.in-Some-split_first.rest.now) c.in-Err-NoText.field-0 c.in-Err-NoText.left c.in-Err-NoText.field-0-is c.in-Err-NoText.ensures)
+primaries::primary-returns-in-Some-3 t c =
+    subst (λ n. IsLongest (Derives c.args.labels rule.Primary) c.args.tokens.now c.in-Some-3.tree c.in-Some-split_first.rest.now n) (sym c.in-Err-NoText.left-is)
+    (name_whole c.in-Some-split_first.first.now c.in-Some-split_first.ensures.cases.0 (sym c.in-Some-function.ensures) (sym c.in_ok-tree-in-Err-NoText.ensures ∙ c.in-Some-3.is)
+    (told_left (Fails (IsCalled c.args.labels c.in-Some-function.function) Anything c.in-Some-split_first.rest.now) c.in-Err-NoText.field-0 c.in-Err-NoText.left c.in-Err-NoText.field-0-is c.in-Err-NoText.ensures))
 
 pub primaries::primary-returns-in-None-2 : goal.primaries::primary-returns-in-None-2
-primaries::primary-returns-in-None-2 t c = word_fails c.in-Some-split_first.first.now c.in-Some-split_first.ensures.cases.0 (sym c.in-Some-function.ensures) (sym c.in_ok-tree-in-Err-NoText.ensures ∙ c.in-None-2.is)
-    (told_left (Fails (IsCalled c.args.labels c.in-Some-function.function) Anything c.in-Some-split_first.rest.now) c.in-Err-NoText.field-0 c.in-Err-NoText.left c.in-Err-NoText.field-0-is c.in-Err-NoText.ensures)
+primaries::primary-returns-in-None-2 t c =
+    subst (λ n. Fails (Derives c.args.labels rule.Primary) Anything c.args.tokens.now n) (sym c.in-Err-NoText.left-is)
+    (word_fails c.in-Some-split_first.first.now c.in-Some-split_first.ensures.cases.0 (sym c.in-Some-function.ensures) (sym c.in_ok-tree-in-Err-NoText.ensures ∙ c.in-None-2.is)
+    (told_left (Fails (IsCalled c.args.labels c.in-Some-function.function) Anything c.in-Some-split_first.rest.now) c.in-Err-NoText.field-0 c.in-Err-NoText.left c.in-Err-NoText.field-0-is c.in-Err-NoText.ensures))
