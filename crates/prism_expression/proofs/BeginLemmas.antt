@@ -92,104 +92,152 @@ fits_more f xs ys y fits = let same : length ((xs ++ (y ∷ [])) ++ ys) ≡ leng
 takes_one : (f : Func) (xs : List Expr) (y : Expr) (zs : List Expr) → takes f (length (xs ++ (y ∷ zs))) ≡ true → takes f (length xs + 1) ≡ true
 takes_one f xs y zs fits = let same : length xs + suc (length zs) ≡ length (xs ++ (y ∷ zs)) = omega (arith, length-append xs (y ∷ zs)) in takes_next f (length xs) (length zs) (ap (takes f) same ∙ fits)
 
+-- an operand alone is a chain
+operand_alone : {labels : Labels} {l : Precedence} {a : List Kind} {x : Expr} → is_chain l ≡ true → Derives labels (inner l) a x → Derives labels l a x
+operand_alone {labels = labels} {l = l} {a = a} {x = x} is_true operand = subst (λ v. Derives labels l v x) (append-nil a) (chain is_true operand end)
+
+-- each prefix of these tokens begins the level
+abbrev Cuts : Labels → Precedence → List Kind → Type 0
+Cuts labels l g = (f more : List Kind) → f ++ more ≡ g → Begins labels l f
+
+-- each prefix of these further operands behind a chain begins its level
+abbrev TailCuts : Labels → Precedence → List Kind → Type 0
+TailCuts labels l b = (h : List Kind) (x : Expr) → Derives labels l h x → (c more : List Kind) → c ++ more ≡ b → Begins labels l (h ++ c)
+
+-- each prefix of these further arguments and `)` behind some arguments begins a primary
+abbrev ArgumentsCuts : Labels → List Kind → List Expr → Type 0
+ArgumentsCuts labels b ys = (t : Kind) (g : Func) (a b0 : List Kind) (x : Expr) (xs : List Expr) → function t ≡ Some g → Derives labels rule.Conditional a x → takes g (length (xs ++ ys)) ≡ true → Arguments labels b0 xs
+    → (u : Kind) (d more : List Kind) → u ∷ (d ++ more) ≡ b ++ (k.Close ∷ []) → Begins labels rule.Primary (t ∷ (k.Open ∷ ((a ++ b0) ++ (u ∷ d))))
+
+chain_cuts : {labels : Labels} {l : Precedence} {a b : List Kind} {x : Expr} → is_chain l ≡ true → Derives labels (inner l) a x → Cuts labels (inner l) a → TailCuts labels l b → Cuts labels l (a ++ b)
+chain_cuts {a = a} {b = b} {x = x} is_true operand first rest f more is =
+    ⊎_elim (λ within. in_first is_true (first f within.0 (sym within.1)))
+    (λ beyond. begun (sym beyond.1) (rest a x (operand_alone is_true operand) beyond.0 more (sym beyond.2)))
+    (cut_twice f more a b is)
+
+end_cuts : {labels : Labels} {l : Precedence} → TailCuts labels l []
+end_cuts h x text [] more is = begun (sym (append-nil h)) (whole text)
+end_cuts h x text (u ∷ c) more is = absurd (cc)
+
+link_cuts : {labels : Labels} {l : Precedence} {a b : List Kind} {y : Expr} (t : Kind) (o : Op) → is_chain l ≡ true → operator l t ≡ Some o → Derives labels (inner l) a y → Cuts labels (inner l) a → TailCuts labels l b → TailCuts labels l (t ∷ (a ++ b))
+link_cuts t o is_true found operand first rest h x text [] more is = begun (sym (append-nil h)) (whole text)
+link_cuts {a = a} {b = b} t o is_true found operand first rest h x text (u ∷ c) more is =
+    begun (ap (λ v. h ++ (v ∷ c)) (sym (heads is)))
+    (⊎_elim (λ within. in_operand t is_true text found (first c within.0 (sym within.1)))
+      (λ beyond.
+        let longer = chain_more t o is_true (chain_texts is_true text) found operand in
+        begun (append_assoc h (t ∷ a) beyond.0 ∙ ap (λ v. h ++ (t ∷ v)) (sym beyond.1)) (rest (h ++ (t ∷ a)) longer.0 longer.1 beyond.0 more (sym beyond.2)))
+      (cut_twice c more a b (tails is)))
+
+sign_cuts : {labels : Labels} {l : Precedence} {a : List Kind} (t : Kind) → is_sign l t ≡ true → Cuts labels l a → Cuts labels l (t ∷ a)
+sign_cuts t is_true first [] more is = empty
+sign_cuts t is_true first (u ∷ f) more is = begun (ap (λ v. v ∷ f) (sym (heads is))) (in_signed is_true (first f more (tails is)))
+
+-- the second branch
+else_cuts : {labels : Labels} {c : List Kind} {x y : Expr} (a b : List Kind) → Derives labels rule.Implication a x → Derives labels rule.Implication b y → Cuts labels rule.Conditional c
+    → (d more : List Kind) → d ++ more ≡ k.Colon ∷ c → Begins labels rule.Conditional (a ++ (k.Query ∷ (b ++ d)))
+else_cuts a b first second last_part [] more is = begun (ap (λ v. a ++ (k.Query ∷ v)) (sym (append-nil b))) (in_then first (whole second))
+else_cuts a b first second last_part (u ∷ d) more is = begun (ap (λ v. a ++ (k.Query ∷ (b ++ (v ∷ d)))) (sym (heads is))) (in_else first second (last_part d more (tails is)))
+
+-- both branches
+then_cuts : {labels : Labels} {c : List Kind} {x y : Expr} (a b : List Kind) → Derives labels rule.Implication a x → Derives labels rule.Implication b y → Cuts labels rule.Implication b → Cuts labels rule.Conditional c
+    → (d more : List Kind) → d ++ more ≡ k.Query ∷ (b ++ (k.Colon ∷ c)) → Begins labels rule.Conditional (a ++ d)
+then_cuts a b first second middle last_part [] more is = begun (sym (append-nil a)) (in_condition (whole first))
+then_cuts {c = c} a b first second middle last_part (u ∷ d) more is =
+    begun (ap (λ v. a ++ (v ∷ d)) (sym (heads is)))
+    (⊎_elim (λ within. in_then first (middle d within.0 (sym within.1)))
+      (λ beyond. begun (ap (λ v. a ++ (k.Query ∷ v)) (sym beyond.1)) (else_cuts a b first second last_part beyond.0 more (sym beyond.2)))
+      (cut_twice d more b (k.Colon ∷ c) (tails is)))
+
+conditional_cuts : {labels : Labels} {c : List Kind} {x y : Expr} (a b : List Kind) → Derives labels rule.Implication a x → Derives labels rule.Implication b y → Cuts labels rule.Implication a → Cuts labels rule.Implication b
+    → Cuts labels rule.Conditional c → Cuts labels rule.Conditional (a ++ (k.Query ∷ (b ++ (k.Colon ∷ c))))
+conditional_cuts {c = c} a b first second front middle last_part f more is =
+    ⊎_elim (λ within. in_condition (front f within.0 (sym within.1)))
+    (λ beyond. begun (sym beyond.1) (then_cuts a b first second middle last_part beyond.0 more (sym beyond.2)))
+    (cut_twice f more a (k.Query ∷ (b ++ (k.Colon ∷ c))) is)
+
+leaf_cuts : {labels : Labels} {x : Expr} (t : Kind) → Derives labels rule.Primary (t ∷ []) x → Cuts labels rule.Primary (t ∷ [])
+leaf_cuts t text [] more is = empty
+leaf_cuts t text (u ∷ []) more is = begun (ap (λ v. v ∷ []) (sym (heads is))) (whole text)
+leaf_cuts t text (u ∷ (v ∷ f)) more is = absurd (let none : v ∷ (f ++ more) ≡ [] = tails is in cc)
+
+-- `)` behind an expression
+close_cuts : {labels : Labels} {x : Expr} (a : List Kind) → Derives labels rule.Conditional a x → (d more : List Kind) → d ++ more ≡ k.Close ∷ [] → Begins labels rule.Primary (k.Open ∷ (a ++ d))
+close_cuts a text [] more is = begun (ap (λ v. k.Open ∷ v) (sym (append-nil a))) (in_parentheses (whole text))
+close_cuts a text (u ∷ []) more is = begun (ap (λ v. k.Open ∷ (a ++ (v ∷ []))) (sym (heads is))) (whole (paren text))
+close_cuts a text (u ∷ (v ∷ d)) more is = absurd (let none : v ∷ (d ++ more) ≡ [] = tails is in cc)
+
+paren_cuts : {labels : Labels} {x : Expr} (a : List Kind) → Derives labels rule.Conditional a x → Cuts labels rule.Conditional a → Cuts labels rule.Primary (k.Open ∷ (a ++ (k.Close ∷ [])))
+paren_cuts a text inside [] more is = empty
+paren_cuts a text inside (u ∷ f) more is =
+    begun (ap (λ v. v ∷ f) (sym (heads is)))
+    (⊎_elim (λ within. in_parentheses (inside f within.0 (sym within.1)))
+      (λ beyond. begun (ap (λ v. k.Open ∷ v) (sym beyond.1)) (close_cuts a text beyond.0 more (sym beyond.2)))
+      (cut_twice f more a (k.Close ∷ []) (tails is)))
+
+last_cuts : {labels : Labels} → ArgumentsCuts labels [] []
+last_cuts t g a b0 x xs found first fits before u [] more is =
+    begun (ap (λ v. t ∷ (k.Open ∷ v)) (sym (append_assoc a b0 (k.Close ∷ [])) ∙ ap (λ v. (a ++ b0) ++ (v ∷ [])) (sym (heads is))))
+    (whole (call found (ap (takes g) (ap length (sym (append-nil xs))) ∙ fits) first before))
+last_cuts t g a b0 x xs found first fits before u (v ∷ d) more is = absurd (let none : v ∷ (d ++ more) ≡ [] = tails is in cc)
+
+-- one more argument, and what stands after it
+next_cuts : {labels : Labels} {ys : List Expr} (b : List Kind) (t : Kind) (g : Func) (a b0 c : List Kind) (x y : Expr) (xs : List Expr) → function t ≡ Some g → takes g (length xs + 1) ≡ true → Derives labels rule.Conditional a x
+    → takes g (length ((xs ++ (y ∷ [])) ++ ys)) ≡ true → Arguments labels b0 xs → Derives labels rule.Conditional c y → ArgumentsCuts labels b ys → (d more : List Kind) → d ++ more ≡ b ++ (k.Close ∷ [])
+    → Begins labels rule.Primary (t ∷ (k.Open ∷ ((a ++ b0) ++ (k.Comma ∷ (c ++ d)))))
+next_cuts b t g a b0 c x y xs found room first fits before text rest [] more is =
+    begun (ap (λ v. t ∷ (k.Open ∷ ((a ++ b0) ++ (k.Comma ∷ v)))) (sym (append-nil c))) (in_further_argument found room first before (whole text))
+next_cuts b t g a b0 c x y xs found room first fits before text rest (u ∷ d) more is =
+    begun (ap (λ v. t ∷ (k.Open ∷ v)) (append_assoc a (b0 ++ (k.Comma ∷ c)) (u ∷ d) ∙ ap (λ v. a ++ v) (append_assoc b0 (k.Comma ∷ c) (u ∷ d)) ∙ sym (append_assoc a b0 (k.Comma ∷ (c ++ (u ∷ d))))))
+    (rest t g a (b0 ++ (k.Comma ∷ c)) x (xs ++ (y ∷ [])) found first fits (arguments_more c y before text) u d more is)
+
+argument_cuts : {labels : Labels} {c : List Kind} {y : Expr} {ys : List Expr} (b : List Kind) → Derives labels rule.Conditional c y → Cuts labels rule.Conditional c → ArgumentsCuts labels b ys → ArgumentsCuts labels (k.Comma ∷ (c ++ b)) (y ∷ ys)
+argument_cuts {c = c} {y = y} {ys = ys} b text inside rest t g a b0 x xs found first fits before u d more is =
+    let room : takes g (length xs + 1) ≡ true = takes_one g xs y ys fits in
+    begun (ap (λ v. t ∷ (k.Open ∷ ((a ++ b0) ++ (v ∷ d)))) (sym (heads is)))
+    (⊎_elim (λ within. in_further_argument found room first before (inside d within.0 (sym within.1)))
+      (λ beyond. begun (ap (λ v. t ∷ (k.Open ∷ ((a ++ b0) ++ (k.Comma ∷ v)))) (sym beyond.1))
+        (next_cuts b t g a b0 c x y xs found room first (fits_more g xs ys y fits) before text rest beyond.0 more (sym beyond.2)))
+      (cut_twice d more c (b ++ (k.Close ∷ [])) (tails is ∙ append_assoc c b (k.Close ∷ []))))
+
+-- behind the first argument
+first_cuts : {labels : Labels} {ys : List Expr} (b : List Kind) (t : Kind) (g : Func) (a : List Kind) (x : Expr) → function t ≡ Some g → takes g (length ys) ≡ true → Derives labels rule.Conditional a x → ArgumentsCuts labels b ys
+    → (d more : List Kind) → d ++ more ≡ b ++ (k.Close ∷ []) → Begins labels rule.Primary (t ∷ (k.Open ∷ (a ++ d)))
+first_cuts b t g a x found fits first rest [] more is = begun (ap (λ v. t ∷ (k.Open ∷ v)) (sym (append-nil a))) (in_argument found (whole first))
+first_cuts b t g a x found fits first rest (u ∷ d) more is = begun (ap (λ v. t ∷ (k.Open ∷ (v ++ (u ∷ d)))) (append-nil a)) (rest t g a [] x [] found first fits last u d more is)
+
+call_cuts : {labels : Labels} {ys : List Expr} (b : List Kind) (t : Kind) (g : Func) (a : List Kind) (x : Expr) → function t ≡ Some g → takes g (length ys) ≡ true → Derives labels rule.Conditional a x → Cuts labels rule.Conditional a
+    → ArgumentsCuts labels b ys → Cuts labels rule.Primary (t ∷ (k.Open ∷ (a ++ (b ++ (k.Close ∷ [])))))
+call_cuts b t g a x found fits first inside rest [] more is = empty
+call_cuts b t g a x found fits first inside rest (u ∷ []) more is = begun (ap (λ v. v ∷ []) (sym (heads is))) (in_function found)
+call_cuts b t g a x found fits first inside rest (u ∷ (v ∷ f)) more is =
+    begun (ap (λ w. w ∷ (k.Open ∷ f)) (sym (heads is)) ∙ ap (λ w. u ∷ (w ∷ f)) (sym (heads (tails is))))
+    (⊎_elim (λ within. in_argument found (inside f within.0 (sym within.1)))
+      (λ beyond. begun (ap (λ w. t ∷ (k.Open ∷ w)) (sym beyond.1)) (first_cuts b t g a x found fits first rest beyond.0 more (sym beyond.2)))
+      (cut_twice f more a (b ++ (k.Close ∷ [])) (tails (tails is))))
+
 mutual
-  -- a prefix of a text of a level
-  prefix_begun : {labels : Labels} {l : Precedence} {g : List Kind} {x : Expr} → Derives labels l g x → (f more : List Kind) → f ++ more ≡ g → Begins labels l f
-  prefix_begun text [] more is = empty
-  prefix_begun (chain {a = a} {b = b} is_true operand tail) (u ∷ f) more is =
-      ⊎_elim (λ within. in_first is_true (prefix_begun operand (u ∷ f) within.0 (sym within.1)))
-      (λ beyond. begun (sym beyond.1) (tail_begun a is_true (begun_whole is_true operand) tail beyond.0 more (sym beyond.2)))
-      (cut_twice (u ∷ f) more a b is)
-  prefix_begun (bare is_true operand) (u ∷ f) more is = in_bare is_true (prefix_begun operand (u ∷ f) more is)
-  prefix_begun (sign {t = t} {a = a} is_true operand) (u ∷ f) more is = begun (ap (λ v. v ∷ f) (sym (heads is))) (in_signed is_true (prefix_begun operand f more (tails is)))
-  prefix_begun (plain text) (u ∷ f) more is = in_condition (prefix_begun text (u ∷ f) more is)
-  prefix_begun (conditional {a = a} {b = b} {c = c} first second third) (u ∷ f) more is =
-      ⊎_elim (λ within. in_condition (prefix_begun first (u ∷ f) within.0 (sym within.1)))
-      (λ beyond. begun (sym beyond.1) (branches_begun a first second third beyond.0 more (sym beyond.2)))
-      (cut_twice (u ∷ f) more a (k.Query ∷ (b ++ (k.Colon ∷ c))) is)
-  prefix_begun (leaf {t = t} {x = x} found) (u ∷ []) more is = begun (ap (λ v. v ∷ []) (sym (heads is))) (whole (leaf found))
-  prefix_begun (leaf found) (u ∷ (v ∷ f)) more is = absurd (let none = tails is in cc)
-  prefix_begun (paren {a = a} text) (u ∷ f) more is =
-      begun (ap (λ v. v ∷ f) (sym (heads is)))
-      (⊎_elim (λ within. in_parentheses (prefix_begun text f within.0 (sym within.1)))
-        (λ beyond. begun (ap (λ v. k.Open ∷ v) (sym beyond.1)) (paren_begun a text beyond.0 more (sym beyond.2)))
-        (cut_twice f more a (k.Close ∷ []) (tails is)))
-  prefix_begun (call {t = t} found fits first others) (u ∷ []) more is = begun (ap (λ v. v ∷ []) (sym (heads is))) (in_function found)
-  prefix_begun (call {t = t} {f = g} {a = a} {b = b} {ys = ys} found fits first others) (u ∷ (v ∷ f)) more is =
-      begun (ap (λ w. w ∷ (k.Open ∷ f)) (sym (heads is)) ∙ ap (λ w. u ∷ (w ∷ f)) (sym (heads (tails is))))
-      (⊎_elim (λ within. in_argument found (prefix_begun first f within.0 (sym within.1)))
-        (λ beyond. begun (ap (λ w. t ∷ (k.Open ∷ w)) (sym beyond.1)) (arguments_begun a found first fits others beyond.0 more (sym beyond.2)))
-        (cut_twice f more a (b ++ (k.Close ∷ [])) (tails (tails is))))
+  -- each prefix of a text begins its level
+  cuts : {labels : Labels} {l : Precedence} {g : List Kind} {x : Expr} → Derives labels l g x → Cuts labels l g
+  cuts (chain is_true operand tail) = chain_cuts is_true operand (cuts operand) (tail_cuts is_true tail)
+  cuts (bare is_true operand) = λ f more is. in_bare is_true (cuts operand f more is)
+  cuts (sign {t = t} is_true operand) = sign_cuts t is_true (cuts operand)
+  cuts (plain text) = λ f more is. in_condition (cuts text f more is)
+  cuts (conditional {a = a} {b = b} first second third) = conditional_cuts a b first second (cuts first) (cuts second) (cuts third)
+  cuts (leaf {t = t} found) = leaf_cuts t (leaf found)
+  cuts (paren {a = a} text) = paren_cuts a text (cuts text)
+  cuts (call {t = t} {f = g} {a = a} {b = b} {x = x} found fits first others) = call_cuts b t g a x found fits first (cuts first) (arguments_cuts others)
 
-  -- a chain so far
-  begun_whole : {labels : Labels} {l : Precedence} {a : List Kind} {x : Expr} → is_chain l ≡ true → Derives labels (inner l) a x → Derives labels l a x
-  begun_whole {labels = labels} {l = l} {a = a} {x = x} is_true operand = subst (λ v. Derives labels l v x) (append-nil a) (chain is_true operand end)
+  -- further operands
+  tail_cuts : {labels : Labels} {l : Precedence} {b : List Kind} {ys : List Expr} {os : List Op} → is_chain l ≡ true → ChainTail labels l b ys os → TailCuts labels l b
+  tail_cuts is_true end = end_cuts
+  tail_cuts is_true (link {t = t} {o = o} found operand tail) = link_cuts t o is_true found operand (cuts operand) (tail_cuts is_true tail)
 
-  -- a prefix of further operands behind a chain
-  tail_begun : {labels : Labels} {l : Precedence} {b : List Kind} {x : Expr} {ys : List Expr} {os : List Op} (h : List Kind) → is_chain l ≡ true → Derives labels l h x → ChainTail labels l b ys os → (c more : List Kind) → c ++ more ≡ b → Begins labels l (h ++ c)
-  tail_begun h is_true text tail [] more is = begun (sym (append-nil h)) (whole text)
-  tail_begun h is_true text end (u ∷ c) more is = absurd (cc)
-  tail_begun {labels = labels} {l = l} h is_true text (link {t = t} {o = o} {a = a} {b = b} {y = y} found operand tail) (u ∷ c) more is =
-      begun (ap (λ v. h ++ (v ∷ c)) (sym (heads is)))
-      (⊎_elim (λ within. in_operand t is_true text found (prefix_begun operand c within.0 (sym within.1)))
-        (λ beyond.
-          let longer = chain_more t o is_true (chain_texts is_true text) found operand in
-          begun (append_assoc h (t ∷ a) beyond.0 ∙ ap (λ v. h ++ (t ∷ v)) (sym beyond.1)) (tail_begun (h ++ (t ∷ a)) is_true longer.1 tail beyond.0 more (sym beyond.2)))
-        (cut_twice c more a b (tails is)))
-
-  -- a prefix of the branches behind a condition
-  branches_begun : {labels : Labels} {b c : List Kind} {x y z : Expr} (a : List Kind) → Derives labels rule.Implication a x → Derives labels rule.Implication b y → Derives labels rule.Conditional c z
-      → (d more : List Kind) → d ++ more ≡ k.Query ∷ (b ++ (k.Colon ∷ c)) → Begins labels rule.Conditional (a ++ d)
-  branches_begun a first second third [] more is = begun (sym (append-nil a)) (in_condition (whole first))
-  branches_begun {b = b} {c = c} a first second third (u ∷ d) more is =
-      begun (ap (λ v. a ++ (v ∷ d)) (sym (heads is)))
-      (⊎_elim (λ within. in_then first (prefix_begun second d within.0 (sym within.1)))
-        (λ beyond. begun (ap (λ v. a ++ (k.Query ∷ v)) (sym beyond.1)) (other_begun a b first second third beyond.0 more (sym beyond.2)))
-        (cut_twice d more b (k.Colon ∷ c) (tails is)))
-
-  -- a prefix of the second branch behind the first
-  other_begun : {labels : Labels} {c : List Kind} {x y z : Expr} (a b : List Kind) → Derives labels rule.Implication a x → Derives labels rule.Implication b y → Derives labels rule.Conditional c z
-      → (d more : List Kind) → d ++ more ≡ k.Colon ∷ c → Begins labels rule.Conditional (a ++ (k.Query ∷ (b ++ d)))
-  other_begun a b first second third [] more is = begun (ap (λ v. a ++ (k.Query ∷ v)) (sym (append-nil b))) (in_then first (whole second))
-  other_begun a b first second third (u ∷ d) more is = begun (ap (λ v. a ++ (k.Query ∷ (b ++ (v ∷ d)))) (sym (heads is))) (in_else first second (prefix_begun third d more (tails is)))
-
-  -- a prefix of `)` behind an expression in parentheses
-  paren_begun : {labels : Labels} {x : Expr} (a : List Kind) → Derives labels rule.Conditional a x → (d more : List Kind) → d ++ more ≡ k.Close ∷ [] → Begins labels rule.Primary (k.Open ∷ (a ++ d))
-  paren_begun a text [] more is = begun (ap (λ v. k.Open ∷ v) (sym (append-nil a))) (in_parentheses (whole text))
-  paren_begun a text (u ∷ []) more is = begun (ap (λ v. k.Open ∷ (a ++ (v ∷ []))) (sym (heads is))) (whole (paren text))
-  paren_begun a text (u ∷ (v ∷ d)) more is = absurd (let none = tails is in cc)
-
-  -- a prefix of the further arguments and `)` behind the first argument
-  arguments_begun : {labels : Labels} {t : Kind} {g : Func} {b : List Kind} {x : Expr} {ys : List Expr} (a : List Kind) → function t ≡ Some g → Derives labels rule.Conditional a x → takes g (length ys) ≡ true → Arguments labels b ys
-      → (d more : List Kind) → d ++ more ≡ b ++ (k.Close ∷ []) → Begins labels rule.Primary (t ∷ (k.Open ∷ (a ++ d)))
-  arguments_begun {t = t} a found first fits others [] more is = begun (ap (λ v. t ∷ (k.Open ∷ v)) (sym (append-nil a))) (in_argument found (whole first))
-  arguments_begun {labels = labels} {t = t} a found first fits others (u ∷ d) more is = begun (ap (λ v. t ∷ (k.Open ∷ (v ++ (u ∷ d)))) (append-nil a)) (further_begun a [] [] found first fits last others u d more is)
-
-  -- and behind some further ones
-  further_begun : {labels : Labels} {t : Kind} {g : Func} {b : List Kind} {x : Expr} {ys : List Expr} (a b0 : List Kind) (xs : List Expr) → function t ≡ Some g → Derives labels rule.Conditional a x → takes g (length (xs ++ ys)) ≡ true
-      → Arguments labels b0 xs → Arguments labels b ys → (u : Kind) (d more : List Kind) → u ∷ (d ++ more) ≡ b ++ (k.Close ∷ []) → Begins labels rule.Primary (t ∷ (k.Open ∷ ((a ++ b0) ++ (u ∷ d))))
-  further_begun {t = t} {g = g} a b0 xs found first fits before last u [] more is =
-      begun (ap (λ v. t ∷ (k.Open ∷ v)) (sym (append_assoc a b0 (k.Close ∷ [])) ∙ ap (λ v. (a ++ b0) ++ (v ∷ [])) (sym (heads is))))
-      (whole (call found (ap (takes g) (ap length (sym (append-nil xs))) ∙ fits) first before))
-  further_begun a b0 xs found first fits before last u (v ∷ d) more is = absurd (let none = tails is in cc)
-  further_begun {t = t} {g = g} {ys = ys} a b0 xs found first fits before (argument {a = c} {b = b} {y = y} {ys = zs} text others) u d more is =
-      let room : takes g (length xs + 1) ≡ true = takes_one g xs y zs fits in
-      begun (ap (λ v. t ∷ (k.Open ∷ ((a ++ b0) ++ (v ∷ d)))) (sym (heads is)))
-      (⊎_elim (λ within. in_further_argument found room first before (prefix_begun text d within.0 (sym within.1)))
-        (λ beyond. begun (ap (λ v. t ∷ (k.Open ∷ ((a ++ b0) ++ (k.Comma ∷ v)))) (sym beyond.1))
-          (next_begun a b0 c xs found room first (fits_more g xs zs y fits) before text others beyond.0 more (sym beyond.2)))
-        (cut_twice d more c (b ++ (k.Close ∷ [])) (tails is ∙ append_assoc c b (k.Close ∷ []))))
-
-  -- and behind one more
-  next_begun : {labels : Labels} {t : Kind} {g : Func} {b : List Kind} {x y : Expr} {ys : List Expr} (a b0 c : List Kind) (xs : List Expr) → function t ≡ Some g → takes g (length xs + 1) ≡ true → Derives labels rule.Conditional a x
-      → takes g (length ((xs ++ (y ∷ [])) ++ ys)) ≡ true → Arguments labels b0 xs → Derives labels rule.Conditional c y → Arguments labels b ys → (d more : List Kind) → d ++ more ≡ b ++ (k.Close ∷ [])
-      → Begins labels rule.Primary (t ∷ (k.Open ∷ ((a ++ b0) ++ (k.Comma ∷ (c ++ d)))))
-  next_begun {t = t} a b0 c xs found room first fits before text others [] more is =
-      begun (ap (λ v. t ∷ (k.Open ∷ ((a ++ b0) ++ (k.Comma ∷ v)))) (sym (append-nil c))) (in_further_argument found room first before (whole text))
-  next_begun {t = t} {y = y} a b0 c xs found room first fits before text others (u ∷ d) more is =
-      begun (ap (λ v. t ∷ (k.Open ∷ v)) (append_assoc a (b0 ++ (k.Comma ∷ c)) (u ∷ d) ∙ ap (λ v. a ++ v) (append_assoc b0 (k.Comma ∷ c) (u ∷ d)) ∙ sym (append_assoc a b0 (k.Comma ∷ (c ++ (u ∷ d))))))
-      (further_begun a (b0 ++ (k.Comma ∷ c)) (xs ++ (y ∷ [])) found first fits (arguments_more c y before text) others u d more is)
+  -- further arguments
+  arguments_cuts : {labels : Labels} {b : List Kind} {ys : List Expr} → Arguments labels b ys → ArgumentsCuts labels b ys
+  arguments_cuts last = last_cuts
+  arguments_cuts (argument {b = b} text others) = argument_cuts b text (cuts text) (arguments_cuts others)
 
 -- tokens begin a level where they are a prefix of one of its texts
 pub prefix_begins : {labels : Labels} {l : Precedence} {f : List Kind} → IsPrefix (Derives labels l) f → Begins labels l f
-prefix_begins {f = f} begins = prefix_begun begins.text f begins.more refl
+prefix_begins {f = f} begins = cuts begins.text f begins.more refl
