@@ -25,9 +25,7 @@ pub fn call<'a>(
 {
     match accept(tokens, &Kind::Open) {
         Some(opened) => arguments(alloc, labels, function, opened),
-        None => Err(Mismatch::NoText {
-            left: tokens.len(),
-        }),
+        None => Err(Mismatch::NoText { left: tokens.len() }),
     }
 }
 

@@ -61,12 +61,15 @@ fn branches<'a>(
         result }
 {
     let Some(inside) = accept(tokens, &Kind::Query) else {
-        return Err(Mismatch::NoText {
-            left: tokens.len(),
-        });
+        return Err(Mismatch::NoText { left: tokens.len() });
     };
-    let (then, outside) =
-        expression_until(alloc, labels, Precedence::Implication, inside, &Kind::Colon)?;
+    let (then, outside) = expression_until(
+        alloc,
+        labels,
+        Precedence::Implication,
+        inside,
+        &Kind::Colon,
+    )?;
     let other = parse_longest(alloc, labels, Precedence::Conditional, outside)?;
     Ok(Branching {
         then,
@@ -77,12 +80,7 @@ fn branches<'a>(
 }
 
 /// The tree of a conditional.
-fn chosen(
-    alloc: Global,
-    condition: Expr,
-    then: Expr,
-    other: Expr,
-) -> Result<Expr, AllocError>
+fn chosen(alloc: Global, condition: Expr, then: Expr, other: Expr) -> Result<Expr, AllocError>
     ensures { IfOk result (λ tree. tree ≡ Expr.If condition then other) }
 {
     Ok(Expr::If(

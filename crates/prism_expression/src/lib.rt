@@ -14,3 +14,6 @@ mod trees;
 pub use laws::{begins_exactly, one_tree};
 pub use longest::Longest;
 pub use parsing::{expression_until, parse_longest};
+
+#[cfg(test)]
+mod tests;

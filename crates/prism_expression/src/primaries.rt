@@ -25,8 +25,13 @@ pub fn primary<'a>(
         result }
 {
     if let Some(inside) = accept(tokens, &Kind::Open) {
-        let (tree, rest) =
-            expression_until(alloc, labels, Precedence::Conditional, inside, &Kind::Close)?;
+        let (tree, rest) = expression_until(
+            alloc,
+            labels,
+            Precedence::Conditional,
+            inside,
+            &Kind::Close,
+        )?;
         return Ok(Longest {
             tree: Expr::Paren(Boxed::new(alloc, tree)?),
             rest,
@@ -34,9 +39,7 @@ pub fn primary<'a>(
         });
     }
     let Some((first, rest)) = tokens.split_first() else {
-        return Err(Mismatch::NoText {
-            left: tokens.len(),
-        });
+        return Err(Mismatch::NoText { left: tokens.len() });
     };
     let Some(function) = function(&first.kind) else {
         return match atom(alloc, labels, &first.kind)? {
@@ -45,9 +48,7 @@ pub fn primary<'a>(
                 rest,
                 left: rest.len(),
             }),
-            None => Err(Mismatch::NoText {
-                left: tokens.len(),
-            }),
+            None => Err(Mismatch::NoText { left: tokens.len() }),
         };
     };
     match call(alloc, labels, function, rest) {
