@@ -24,7 +24,8 @@ fn push(tokens: &mut Vec<Token>, kind: Kind) -> Result<(), AllocError> {
         kind,
         from: 0,
         to: 0,
-    })
+    })?;
+    Ok(())
 }
 
 /// The tokens of a text with a blank between any two.
