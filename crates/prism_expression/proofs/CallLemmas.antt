@@ -1,188 +1,354 @@
--- When what is read so far is the longest call, or a name alone, or no primary.
-use Rattle.std.proofs.Common.{◌≡◌, ℕ, ◌+◌, ◌≤◌, Bool, true, false, List, [], ◌∷◌, ◌++◌, length, Some, None, ⊎_elim, refl, sym, ap, ◌∙◌, subst, arith}
-use Rattle.std.proofs.lemmas.List.{append_assoc, append-nil, length-append}
+-- The arguments of a call as they are parsed one after another.
+use Rattle.std.proofs.Common.{◌≡◌, ℕ, zero, suc, ◌+◌, ◌≤◌, min, nat_le, false, true, List, [], ◌∷◌, ◌++◌, length, refl, sym, ap, ◌∙◌, subst, ◌⊎◌, inl, inr, ⊎_elim, arith}
 use Rattle.std.proofs.lemmas.Bool.Decides.{nat_tests}
+use Rattle.std.proofs.lemmas.List.{append_assoc, append-nil, length-append}
+use Rattle.prism_syntax.specs.declared.labels.Labels.{Labels}
 use Rattle.prism_syntax.specs.declared.tokens.Kind.{Kind}
 use Rattle.prism_syntax.specs.declared.tokens.Kind.TheVariants as k
 use Rattle.prism_syntax.specs.declared.expressions.Expr.{Expr}
 use Rattle.prism_syntax.specs.declared.expressions.Expr.TheVariants as e
 use Rattle.prism_syntax.specs.declared.expressions.Func.{Func}
 use Rattle.prism_syntax.specs.declared.expressions.Func.TheVariants as f
-use Rattle.prism_syntax.specs.declared.lines.Line.TheVariants as line
-use Rattle.prism_syntax.specs.Lines.{atom, function, takes, may_take}
-use Rattle.prism_syntax.specs.Expressions.{In, call, More, last, part, IsLongest, BeginsNoText}
+use Rattle.prism_syntax.specs.declared.precedence.Precedence.TheVariants as rule
+use Rattle.prism_syntax.specs.Precedence.{takes}
+use Rattle.prism_syntax.specs.Expressions.{Derives, Arguments, last, argument}
+use Rattle.prism_reading.specs.Reach.{IsPrefix, IsReach}
+use Rattle.prism_reading.specs.Reading.{Anything}
+use Rattle.prism_reading.proofs.ReachLemmas.{Begun, begun, begun_behind, begun_lesser, reach_begun, reach_same, reach_nil, cut_twice, heads, tails}
+use Rattle.prism_reading.proofs.DefiniteLemmas.{Agrees}
+use Rattle.prism_expression.specs.Follow.{goes_on, Ends}
+use Rattle.prism_expression.specs.Parts.{IsRest, rest, IsArguments, arguments, IsCalled, called}
 use Rattle.prism_expression.proofs.RankLemmas.{false_true}
-use Rattle.prism_expression.proofs.TextLemmas.{PrimaryText, leaf_text, paren_text, call_text, primary_texts}
-use Rattle.prism_expression.proofs.TwoTextLemmas.{heads, tails, some_same}
-use Rattle.prism_expression.proofs.TwoPrimaryLemmas.{open_no_function, parts_cut, parts_stop}
-use Rattle.prism_expression.proofs.CompareLemmas.{longest_compared}
-use Rattle.prism_expression.proofs.LongestLemmas.{BeginsNot}
-use Rattle.prism_expression.proofs.PrimaryLemmas.{IsCall, leaf_whole, none_whole}
-pub use Rattle.prism_expression.proofs.PrimaryLemmas.{leaf_longest, leaf_alone, token_none, function_none, paren_whole, paren_none, paren_open}
+use Rattle.prism_expression.proofs.TwoTextLemmas.{regroup}
+use Rattle.prism_expression.proofs.CompareLemmas.{arguments_compare, agreed, ends_stop}
+use Rattle.prism_expression.proofs.TruthLemmas.{truth}
+use Rattle.prism_expression.proofs.FoundLemmas.{Found, Missing, Behind, past_rest}
+use Rattle.prism_expression.proofs.NextLemmas.{other_text, next_text}
 
--- the parts of a call that end before `)` go on after what was read by these parts
-pub record PartsOnward (q : Bool) (rest after : List Kind) (ys zs : List Expr) : Type 0 where
-  pub front : List Kind
-  pub others : List Expr
-  pub cut : rest ≡ front ++ (k.Close ∷ after)
-  pub parts : More q front others
-  pub whole : zs ≡ ys ++ others
+-- ---- the rest of some arguments
 
--- parts of a call have been read, and the parts of each call go on by parts after them
-pub record AreParts (q : Bool) (ks : List Kind) (x : Expr) (ys : List Expr) (rest : List Kind) : Type 0 where
-  pub first : List Kind
-  pub further : List Kind
-  pub cut : ks ≡ first ++ (further ++ rest)
-  pub part : In q line.Choice first x
-  pub parts : More q further ys
-  pub ahead : (a b after : List Kind) (any : Expr) (zs : List Expr) → ks ≡ a ++ (b ++ (k.Close ∷ after)) → In q line.Choice a any → More q b zs
-      → (any ≡ x) × PartsOnward q rest after ys zs
+-- a function that takes more arguments may take one more
+pub takes_next : (g : Func) (n m : ℕ) → takes g (n + suc m) ≡ true → takes g (n + 1) ≡ true
+takes_next f.Min n m holds = grind (arith, nat_tests)
+takes_next f.Max n m holds = grind (arith, nat_tests)
+takes_next f.Floor n m holds = grind (arith, nat_tests)
+takes_next f.Ceil n m holds = grind (arith, nat_tests)
+takes_next f.Pow n m holds = grind (arith, nat_tests)
+takes_next f.Mod n m holds = grind (arith, nat_tests)
 
--- the first part of a call is the longest expression
-part_ahead : {q : Bool} {ks rest : List Kind} {x any : Expr} {zs : List Expr} (a b after : List Kind) → IsLongest q line.Choice ks x rest → ks ≡ a ++ (b ++ (k.Close ∷ after))
-    → In q line.Choice a any → More q b zs → (any ≡ x) × (rest ≡ b ++ (k.Close ∷ after))
-part_ahead a b after longest cut text parts =
-    ⊎_elim (λ both. (sym both.1, both.0)) (λ beyond. absurd (parts_stop after parts beyond.1)) (longest_compared (b ++ (k.Close ∷ after)) longest cut text)
+-- the rest is `)`, or a comma, an argument and a rest after it
+data RestShape (labels : Labels) (g : Func) (before : ℕ) (h : List Kind) : Type 0 where
+  closes : h ≡ k.Close ∷ [] → takes g before ≡ true → RestShape labels g before h
+  goes : (a b : List Kind) (y : Expr) (ys : List Expr) → h ≡ k.Comma ∷ (a ++ b) → takes g (before + 1) ≡ true → Derives labels rule.Conditional a y → IsRest labels g (before + 1) b ys
+      → RestShape labels g before h
 
--- the longest first expression begins the parts
-pub parts_begun : {q : Bool} {ks rest : List Kind} {x : Expr} → IsLongest q line.Choice ks x rest → AreParts q ks x [] rest
-parts_begun {q = q} {rest = rest} longest = record {
-  first = longest.front;
-  further = [];
-  cut = longest.cut;
-  part = longest.text;
-  parts = last;
-  ahead = λ a b after any zs cut text parts.
-      let both = part_ahead a b after longest cut text parts in
-      (both.0, record { front = b; others = zs; cut = both.1; parts = parts; whole = refl });
+rest_shape : {labels : Labels} {g : Func} {before : ℕ} {h : List Kind} {ys : List Expr} → IsRest labels g before h ys → RestShape labels g before h
+rest_shape {g = g} {before = before} (rest fits last) = closes refl (let same : before + 0 ≡ before = omega arith in ap (takes g) (sym same) ∙ fits)
+rest_shape {g = g} {before = before} (rest fits (argument {a = a} {b = b} {y = y} {ys = ys} first more)) =
+    let same : (before + 1) + length ys ≡ before + suc (length ys) = omega arith in
+    goes a (b ++ (k.Close ∷ [])) y ys (ap (λ v. k.Comma ∷ v) (append_assoc a b (k.Close ∷ []))) (takes_next g before (length ys) fits) first (rest (ap (takes g) same ∙ fits) more)
+
+-- the first token of a rest goes on no argument
+rest_stops : {labels : Labels} {g : Func} {before : ℕ} {h : List Kind} {ys : List Expr} → IsRest labels g before h ys → (t : Kind) (d : List Kind) → h ≡ t ∷ d → goes_on rule.Conditional t ≡ true → ⊥
+rest_stops (rest fits last) t d is on = false_true (ap (goes_on rule.Conditional) (heads is) ∙ on)
+rest_stops (rest fits (argument first more)) t d is on = false_true (ap (goes_on rule.Conditional) (heads is) ∙ on)
+
+rest_ends : {labels : Labels} {g : Func} {before : ℕ} {h : List Kind} {ys : List Expr} (r : List Kind) → IsRest labels g before h ys → Ends rule.Conditional (h ++ r)
+rest_ends r (rest fits last) = refl
+rest_ends r (rest fits (argument first more)) = refl
+
+rest_agrees : {labels : Labels} {g : Func} {before : ℕ} {a b : List Kind} {xs ys : List Expr} (r s : List Kind) → IsRest labels g before a xs → IsRest labels g before b ys → a ++ r ≡ b ++ s → (r ≡ s) × (xs ≡ ys)
+rest_agrees r s (rest {b = a} {ys = xs} fits first) (rest {b = b} {ys = ys} suits second) is =
+    arguments_compare first b r s ys second (sym (append_assoc a (k.Close ∷ []) r) ∙ is ∙ append_assoc b (k.Close ∷ []) s)
+
+-- two lists of arguments at the front of one list of tokens are the same
+pub arguments_agree : {labels : Labels} (g : Func) → Agrees (IsArguments labels g) Anything
+arguments_agree {labels = labels} g a b r s x y first second before after is = of a b x y first second is
+  where
+    of : (h i : List Kind) (xs ys : List Expr) → IsArguments labels g h xs → IsArguments labels g i ys → h ++ r ≡ i ++ s → (r ≡ s) × (xs ≡ ys)
+    of h i xs ys (arguments {a = c} {b = d} {x = u} one more) (arguments {a = m} {b = n} {x = v} other others) same =
+        let both = agreed one other (regroup c d r m n s same) (rest_ends r more) (rest_ends s others) in
+        let ends = rest_agrees r s more others both.1 in
+        (ends.0, cc (both.2, ends.1))
+
+-- so are two with `(` before them
+pub called_agree : {labels : Labels} (g : Func) → Agrees (IsCalled labels g) Anything
+called_agree {labels = labels} g a b r s x y first second before after is = of a b x y first second is
+  where
+    of : (h i : List Kind) (xs ys : List Expr) → IsCalled labels g h xs → IsCalled labels g i ys → h ++ r ≡ i ++ s → (r ≡ s) × (xs ≡ ys)
+    of h i xs ys (called {a = c} one) (called {a = d} other) same = arguments_agree g c d r s xs ys one other tt tt (tails same)
+
+-- the least rest of the first argument
+record LeastRest (labels : Labels) (g : Func) : Type 0 where
+  tokens : List Kind
+  trees : List Expr
+  text : IsRest labels g 0 tokens trees
+
+none_more : {labels : Labels} (g : Func) → takes g 0 ≡ true → LeastRest labels g
+none_more g fits = record { tokens = k.Close ∷ []; trees = []; text = rest fits last }
+
+one_more : {labels : Labels} (g : Func) → takes g 1 ≡ true → LeastRest labels g
+one_more g fits = record { tokens = (k.Comma ∷ ((k.True ∷ []) ++ [])) ++ (k.Close ∷ []); trees = e.Truth true ∷ []; text = rest fits (argument (truth rule.Conditional) last) }
+
+least_rest : (labels : Labels) (g : Func) → LeastRest labels g
+least_rest labels f.Min = one_more f.Min refl
+least_rest labels f.Max = one_more f.Max refl
+least_rest labels f.Floor = none_more f.Floor refl
+least_rest labels f.Ceil = none_more f.Ceil refl
+least_rest labels f.Pow = one_more f.Pow refl
+least_rest labels f.Mod = one_more f.Mod refl
+
+-- what begins an argument begins the arguments
+pub argument_begins : {labels : Labels} (g : Func) {p : List Kind} → IsPrefix (Derives labels rule.Conditional) p → IsPrefix (IsArguments labels g) p
+argument_begins {labels = labels} g {p = p} begins =
+    let least = least_rest labels g in
+    record {
+      more = begins.more ++ least.tokens;
+      tree = begins.tree ∷ least.trees;
+      text = subst (λ v. IsArguments labels g v (begins.tree ∷ least.trees)) (append_assoc p begins.more least.tokens) (arguments begins.text least.text);
+    }
+
+-- ---- an argument and a rest after it
+
+-- behind the longest argument stands the rest
+rest_after : {labels : Labels} {g : Func} {before : ℕ} {ts next : List Kind} {x y : Expr} {ys : List Expr} {n : ℕ} (a b r : List Kind) → Found (Derives labels rule.Conditional) ts x next n → Derives labels rule.Conditional a y
+    → IsRest labels g before b ys → ts ≡ (a ++ b) ++ r → next ≡ b ++ r
+rest_after {y = y} a b r told text more is =
+    ⊎_elim (λ one. one.0) (λ beyond. absurd (ends_stop rule.Conditional (b ++ r) (rest_ends r more) beyond.1)) (other_text a (b ++ r) y told text (is ∙ append_assoc a b r))
+
+-- a prefix of an argument and a rest ends inside the argument, or begins the rest after it
+rest_prefix : {labels : Labels} {g : Func} {before : ℕ} {ts next : List Kind} {x y : Expr} {ys : List Expr} {n : ℕ} (p more a b r : List Kind) → Found (Derives labels rule.Conditional) ts x next n → Derives labels rule.Conditional a y
+    → IsRest labels g before b ys → p ++ more ≡ a ++ b → ts ≡ p ++ r → (n ≤ length r) ⊎ ((c : List Kind) × (next ≡ c ++ r) × IsPrefix (IsRest labels g before) c)
+rest_prefix {labels = labels} {g = g} {before = before} {y = y} {ys = ys} p more a b r told text others equal is =
+    ⊎_elim
+    (λ within. inl (told.reach.furthest p r is (record { more = within.0; tree = y; text = subst (λ v. Derives labels rule.Conditional v y) within.1 text })))
+    (λ beyond.
+    ⊎_elim (λ short. inl (omega (arith, short, past_rest told)))
+    (λ next. inr (beyond.0, next, record { more = more; tree = ys; text = subst (λ v. IsRest labels g before v ys) beyond.2 others }))
+    (next_text a beyond.0 r y told text (is ∙ ap (λ v. v ++ r) beyond.1 ∙ append_assoc a beyond.0 r)
+    (λ t d here on. rest_stops others t (d ++ more) (beyond.2 ∙ ap (λ v. v ++ more) here) on)))
+    (cut_twice p more a b equal)
+
+-- ---- arguments so far
+
+-- the arguments so far, and that each list of arguments and each prefix of one ends in them or goes on after them
+pub record ArgumentsSoFar (labels : Labels) (g : Func) (ts next : List Kind) (n : ℕ) (x : Expr) (ys : List Expr) : Type 0 where
+  pub a : List Kind
+  pub b : List Kind
+  pub cut : ts ≡ (a ++ b) ++ next
+  pub first : Derives labels rule.Conditional a x
+  pub others : Arguments labels b ys
+  pub texts : (p r : List Kind) (zs : List Expr) → ts ≡ p ++ r → IsArguments labels g p zs → (c : List Kind) × (us : List Expr) × (next ≡ c ++ r) × IsRest labels g (length ys) c us
+  pub begun : Begun (IsPrefix (IsArguments labels g)) ts n
+  pub past : n ≤ length next
+  pub prefixes : (p r : List Kind) → ts ≡ p ++ r → IsPrefix (IsArguments labels g) p → (n ≤ length r) ⊎ ((c : List Kind) × (next ≡ c ++ r) × IsPrefix (IsRest labels g (length ys)) c)
+
+-- no first argument
+pub no_argument : {labels : Labels} {g : Func} {ts : List Kind} {n : ℕ} → Missing (Derives labels rule.Conditional) ts n → Missing (IsArguments labels g) ts n
+no_argument {labels = labels} {g = g} {ts = ts} none = record {
+  none = λ p r xs is text. no_text p r xs is text;
+  reach = reach_same (λ p begins. argument_begins g begins) (λ p r is begins. inside p r is begins (p ++ begins.more) begins.tree begins.text refl) none.reach;
 }
+  where
+    no_text : (p r : List Kind) (xs : List Expr) → ts ≡ p ++ r → IsArguments labels g p xs → ⊥
+    no_text p r xs is (arguments {a = a} {b = b} {x = x} one more) = none.none a (b ++ r) x (is ∙ append_assoc a b r) one
 
--- one more part after some
-part_added : {q : Bool} {b : List Kind} {ys : List Expr} {y : Expr} (a : List Kind) → More q b ys → In q line.Choice a y → More q (b ++ (k.Comma ∷ a)) (ys ++ (y ∷ []))
-part_added {q = q} {y = y} a last text = subst (λ z. More q (k.Comma ∷ z) (y ∷ [])) (append-nil a) (part text last)
-part_added {q = q} {y = y} a (part {a = c} {b = d} {y = z} {ys = zs} first parts) text =
-    subst (λ w. More q (k.Comma ∷ w) (z ∷ (zs ++ (y ∷ [])))) (sym (append_assoc c d (k.Comma ∷ a))) (part first (part_added a parts text))
+    inside : (p r : List Kind) → ts ≡ p ++ r → (begins : IsPrefix (IsArguments labels g) p) → (h : List Kind) (xs : List Expr) → IsArguments labels g h xs → p ++ begins.more ≡ h → IsPrefix (Derives labels rule.Conditional) p
+    inside p r is begins h xs (arguments {a = a} {b = b} {x = x} one more) equal =
+        ⊎_elim (λ within. record { more = within.0; tree = x; text = subst (λ v. Derives labels rule.Conditional v x) within.1 one })
+        (λ beyond. absurd (none.none a (beyond.0 ++ r) x (is ∙ ap (λ v. v ++ r) beyond.1 ∙ append_assoc a beyond.0 r) one))
+        (cut_twice p begins.more a b equal)
 
--- no token is both
-close_no_comma : k.Close ≡ k.Comma → ⊥
-close_no_comma is = cc
-
--- parts that begin at a comma go on after the longest expression that follows it
-added_ahead : {q : Bool} {more rest b : List Kind} {y : Expr} {zs others : List Expr} (ys : List Expr) (after : List Kind) → IsLongest q line.Choice more y rest → More q b others
-    → k.Comma ∷ more ≡ b ++ (k.Close ∷ after) → zs ≡ ys ++ others → PartsOnward q rest after (ys ++ (y ∷ [])) zs
-added_ahead ys after longest last cut whole = absurd (close_no_comma (sym (heads cut)))
-added_ahead {y = y} ys after longest (part {a = a} {b = b} {y = z} {ys = others} text parts) cut whole =
-    let both = part_ahead a b after longest (tails cut ∙ append_assoc a b (k.Close ∷ after)) text parts in
-    record { front = b; others = others; cut = both.1; parts = parts; whole = whole ∙ ap (λ w. ys ++ (w ∷ others)) both.0 ∙ sym (append_assoc ys (y ∷ []) others) }
-
--- a comma and the longest expression after it are one more part
-pub parts_more : {q : Bool} {ks more rest : List Kind} {x y : Expr} {ys : List Expr} → AreParts q ks x ys (k.Comma ∷ more) → IsLongest q line.Choice more y rest
-    → AreParts q ks x (ys ++ (y ∷ [])) rest
-parts_more {q = q} {more = more} {rest = rest} {ys = ys} read longest = record {
-  first = read.first;
-  further = read.further ++ (k.Comma ∷ longest.front);
-  cut = read.cut ∙ ap (λ z. read.first ++ (read.further ++ (k.Comma ∷ z))) longest.cut ∙ ap (λ z. read.first ++ z) (sym (append_assoc read.further (k.Comma ∷ longest.front) rest));
-  part = read.part;
-  parts = part_added longest.front read.parts longest.text;
-  ahead = λ a b after any zs cut text parts.
-      let both = read.ahead a b after any zs cut text parts in
-      (both.0, added_ahead ys after longest both.1.parts both.1.cut both.1.whole);
+-- the first argument
+pub arguments_first : {labels : Labels} {g : Func} {ts next : List Kind} {x : Expr} {n : ℕ} → Found (Derives labels rule.Conditional) ts x next n → ArgumentsSoFar labels g ts next n x []
+arguments_first {labels = labels} {g = g} {ts = ts} {next = next} {n = n} told = record {
+  a = told.front;
+  b = [];
+  cut = told.cut ∙ ap (λ v. v ++ next) (sym (append-nil told.front));
+  first = told.text;
+  others = last;
+  texts = λ p r zs is text. text_at p r zs is text;
+  begun = begun_behind [] refl (λ p begins. argument_begins g begins) (begun told.reach);
+  past = past_rest told;
+  prefixes = λ p r is begins. prefix_at p r is begins (p ++ begins.more) begins.tree begins.text refl;
 }
+  where
+    text_at : (p r : List Kind) (zs : List Expr) → ts ≡ p ++ r → IsArguments labels g p zs → (c : List Kind) × (us : List Expr) × (next ≡ c ++ r) × IsRest labels g 0 c us
+    text_at p r zs is (arguments {a = a} {b = b} {ys = ys} one more) = (b, ys, rest_after a b r told one more is, more)
 
--- no text of a call of the function goes on with these tokens after `(`
-abbrev pub NoCall : Bool → Func → List Kind → Type 0
-NoCall q f ks = (a b after : List Kind) (x : Expr) (ys : List Expr) → ks ≡ a ++ (b ++ (k.Close ∷ after)) → takes f (length ys) ≡ true → In q line.Choice a x → More q b ys → ⊥
+    prefix_at : (p r : List Kind) → ts ≡ p ++ r → (begins : IsPrefix (IsArguments labels g) p) → (h : List Kind) (xs : List Expr) → IsArguments labels g h xs → p ++ begins.more ≡ h
+        → (n ≤ length r) ⊎ ((c : List Kind) × (next ≡ c ++ r) × IsPrefix (IsRest labels g 0) c)
+    prefix_at p r is begins h xs (arguments {a = a} {b = b} one more) equal = rest_prefix p begins.more a b r told one more equal is
 
--- nothing but `)` ends the parts before `)`
-close_within : {q : Bool} {rest b : List Kind} {others : List Expr} (after : List Kind) → More q b others → k.Close ∷ rest ≡ b ++ (k.Close ∷ after) → length rest ≤ length after
-close_within after last cut = omega (arith, ap length (tails cut))
-close_within after (part text parts) cut = absurd (close_no_comma (heads cut))
+-- a further argument at the end
+pub arguments_more : {labels : Labels} {b : List Kind} {ys : List Expr} (a : List Kind) (y : Expr) → Arguments labels b ys → Derives labels rule.Conditional a y → Arguments labels (b ++ (k.Comma ∷ a)) (ys ++ (y ∷ []))
+arguments_more {labels = labels} a y last text = subst (λ v. Arguments labels (k.Comma ∷ v) (y ∷ [])) (append-nil a) (argument text last)
+arguments_more {labels = labels} a y (argument {a = c} {b = d} {y = z} {ys = zs} first more) text =
+    subst (λ v. Arguments labels (k.Comma ∷ v) (z ∷ (zs ++ (y ∷ [])))) (sym (append_assoc c d (k.Comma ∷ a))) (argument first (arguments_more a y more text))
 
--- no primary that begins as a call is longer than the call
-call_within : {q : Bool} {t : Kind} {f : Func} {ks rest other : List Kind} {x any : Expr} {ys : List Expr} (after : List Kind) → function t ≡ Some f → AreParts q ks x ys (k.Close ∷ rest)
-    → PrimaryText q other any → t ∷ (k.Open ∷ ks) ≡ other ++ after → length rest ≤ length after
-call_within {rest = rest} after is_function read (leaf_text found) cut =
-    omega (arith, ap length (tails cut), ap length read.cut, length-append read.first (read.further ++ (k.Close ∷ rest)), length-append read.further (k.Close ∷ rest))
-call_within {t = t} {f = f} after is_function read (paren_text inside) cut = absurd (open_no_function t f (heads cut) is_function)
-call_within after is_function read (call_text {a = a} {b = b} {x = y} {ys = zs} is fits text parts) cut =
-    let both = read.ahead a b after y zs (tails (tails cut) ∙ parts_cut a b after) text parts in
-    close_within after both.1.parts both.1.cut
-
--- a function takes the parts up to `)`: the call is the longest primary
-pub call_whole : {q : Bool} {t : Kind} {f : Func} {ks rest : List Kind} {x : Expr} {ys : List Expr}
-    → function t ≡ Some f → takes f (length ys) ≡ true → AreParts q ks x ys (k.Close ∷ rest) → IsLongest q line.Primary (t ∷ (k.Open ∷ ks)) (e.Call f (x ∷ ys)) rest
-call_whole {t = t} {rest = rest} is_function fits read = record {
-  front = t ∷ (k.Open ∷ (read.first ++ (read.further ++ (k.Close ∷ []))));
-  cut = ap (λ z. t ∷ (k.Open ∷ z)) (read.cut ∙ sym (parts_cut read.first read.further rest));
-  text = call is_function fits read.part read.parts;
-  longest = λ other after any cut text. call_within after is_function read (primary_texts text) cut;
+-- a comma and what begins an argument after it begin the arguments
+pub comma_begins : {labels : Labels} {g : Func} {p a b : List Kind} {x : Expr} {ys : List Expr} → Derives labels rule.Conditional a x → Arguments labels b ys → takes g (length ys + 1) ≡ true
+    → IsPrefix (Derives labels rule.Conditional) p → IsPrefix (IsArguments labels g) (((a ++ b) ++ (k.Comma ∷ [])) ++ p)
+comma_begins {labels = labels} {g = g} {p = p} {a = a} {b = b} {x = x} {ys = ys} first others fits begins = record {
+  more = begins.more ++ (k.Close ∷ []);
+  tree = x ∷ (ys ++ (begins.tree ∷ []));
+  text = subst (λ v. IsArguments labels g v (x ∷ (ys ++ (begins.tree ∷ [])))) same
+      (arguments first (rest (ap (takes g) many ∙ fits) (arguments_more (p ++ begins.more) begins.tree others begins.text)));
 }
+  where
+    many : 0 + length (ys ++ (begins.tree ∷ [])) ≡ length ys + 1
+    many = omega (arith, length-append ys (begins.tree ∷ []))
 
--- no call where no expression follows `(`
-pub no_call_first : {q : Bool} {ks : List Kind} (f : Func) → BeginsNoText q line.Choice ks → NoCall q f ks
-no_call_first f none a b after x ys cut fits text parts = none a (b ++ (k.Close ∷ after)) x cut text
+    same : a ++ ((b ++ (k.Comma ∷ (p ++ begins.more))) ++ (k.Close ∷ [])) ≡ (((a ++ b) ++ (k.Comma ∷ [])) ++ p) ++ (begins.more ++ (k.Close ∷ []))
+    same =
+        ap (λ v. a ++ v) (append_assoc b (k.Comma ∷ (p ++ begins.more)) (k.Close ∷ []) ∙ ap (λ v. b ++ (k.Comma ∷ v)) (append_assoc p begins.more (k.Close ∷ [])))
+        ∙ sym (append_assoc a b (k.Comma ∷ (p ++ (begins.more ++ (k.Close ∷ [])))))
+        ∙ sym (append_assoc (a ++ b) (k.Comma ∷ []) (p ++ (begins.more ++ (k.Close ∷ []))))
+        ∙ sym (append_assoc ((a ++ b) ++ (k.Comma ∷ [])) p (begins.more ++ (k.Close ∷ [])))
 
--- no parts begin at a comma that no expression follows
-no_comma_part : {q : Bool} {more b : List Kind} {others : List Expr} (after : List Kind) → BeginsNoText q line.Choice more → More q b others → k.Comma ∷ more ≡ b ++ (k.Close ∷ after) → ⊥
-no_comma_part after none last cut = close_no_comma (sym (heads cut))
-no_comma_part after none (part {a = a} {b = b} {y = y} text parts) cut = none a (b ++ (k.Close ∷ after)) y (tails cut ∙ append_assoc a b (k.Close ∷ after)) text
+-- a rest behind a comma that was passed
+comma_rest : {labels : Labels} {g : Func} {before : ℕ} {next after : List Kind} (c r : List Kind) → next ≡ k.Comma ∷ after → next ≡ c ++ r → RestShape labels g before c
+    → (a : List Kind) × (b : List Kind) × (y : Expr) × (ys : List Expr) × (after ≡ (a ++ b) ++ r) × Derives labels rule.Conditional a y × IsRest labels g (before + 1) b ys
+comma_rest c r is cut (closes here fits) = absurd (let wrong : k.Comma ≡ k.Close = heads (sym is ∙ cut ∙ ap (λ v. v ++ r) here) in cc)
+comma_rest c r is cut (goes a b y ys here fits first more) = (a, b, y, ys, tails (sym is ∙ cut ∙ ap (λ v. v ++ r) here), first, more)
 
--- or where none follows a comma
-pub no_call_part : {q : Bool} {ks more : List Kind} {x : Expr} {ys : List Expr} (f : Func) → AreParts q ks x ys (k.Comma ∷ more) → BeginsNoText q line.Choice more → NoCall q f ks
-no_call_part f read none a b after any zs cut fits text parts =
-    let onward = (read.ahead a b after any zs cut text parts).1 in
-    no_comma_part after none onward.parts onward.cut
+-- a prefix of a rest behind such a comma
+comma_prefix : {labels : Labels} {g : Func} {before : ℕ} {h : List Kind} (u : Kind) (p more : List Kind) → u ≡ k.Comma → u ∷ (p ++ more) ≡ h → RestShape labels g before h
+    → (a : List Kind) × (b : List Kind) × (y : Expr) × (ys : List Expr) × (p ++ more ≡ a ++ b) × Derives labels rule.Conditional a y × IsRest labels g (before + 1) b ys
+comma_prefix u p more is cut (closes here fits) = absurd (let wrong : k.Comma ≡ k.Close = sym is ∙ heads (cut ∙ here) in cc)
+comma_prefix u p more is cut (goes a b y ys here fits first others) = (a, b, y, ys, tails (cut ∙ here), first, others)
 
--- no parts begin at another token than `,` and `)`
-no_other_part : {q : Bool} {rest b : List Kind} {others : List Expr} (after : List Kind) → BeginsNot k.Comma rest → BeginsNot k.Close rest → More q b others → rest ≡ b ++ (k.Close ∷ after) → ⊥
-no_other_part after no_comma no_close last cut = no_close after cut
-no_other_part after no_comma no_close (part {a = a} {b = b} text parts) cut = no_comma ((a ++ b) ++ (k.Close ∷ after)) cut
+-- one argument more
+pub arguments_next : {labels : Labels} {g : Func} {ts next after beyond : List Kind} {n m : ℕ} {x y : Expr} {ys : List Expr} → ArgumentsSoFar labels g ts next n x ys → next ≡ k.Comma ∷ after
+    → takes g (length ys + 1) ≡ true → Found (Derives labels rule.Conditional) after y beyond m → ArgumentsSoFar labels g ts beyond (min n m) x (ys ++ (y ∷ []))
+arguments_next {labels = labels} {g = g} {ts = ts} {next = next} {after = after} {beyond = beyond} {n = n} {m = m} {y = y} {ys = ys} so_far is fits told = record {
+  a = so_far.a;
+  b = so_far.b ++ (k.Comma ∷ told.front);
+  cut = so_far.cut ∙ ap (λ v. (so_far.a ++ so_far.b) ++ v) (is ∙ ap (λ v. k.Comma ∷ v) told.cut) ∙ sym (append_assoc (so_far.a ++ so_far.b) (k.Comma ∷ told.front) beyond) ∙ ap (λ v. v ++ beyond) (append_assoc so_far.a so_far.b (k.Comma ∷ told.front));
+  first = so_far.first;
+  others = arguments_more told.front y so_far.others told.text;
+  texts = λ p r zs cut text. text_at r (so_far.texts p r zs cut text);
+  begun = begun_lesser n m so_far.begun
+      (begun_behind ((so_far.a ++ so_far.b) ++ (k.Comma ∷ [])) (so_far.cut ∙ ap (λ v. (so_far.a ++ so_far.b) ++ v) is ∙ sym (append_assoc (so_far.a ++ so_far.b) (k.Comma ∷ []) after))
+      (λ p begins. comma_begins so_far.first so_far.others fits begins) (begun told.reach));
+  past = omega (arith, past_rest told);
+  prefixes = λ p r cut begins. ⊎_elim (λ short. inl (omega (arith, short))) (λ part. prefix_at r part.0 part.1 part.2) (so_far.prefixes p r cut begins);
+}
+  where
+    many : length ys + 1 ≡ length (ys ++ (y ∷ []))
+    many = omega (arith, length-append ys (y ∷ []))
 
--- or where neither `,` nor `)` follows a part
-pub no_call_token : {q : Bool} {ks rest : List Kind} {x : Expr} {ys : List Expr} (f : Func) → AreParts q ks x ys rest → BeginsNot k.Comma rest → BeginsNot k.Close rest → NoCall q f ks
-no_call_token f read no_comma no_close a b after any zs cut fits text parts =
-    let onward = (read.ahead a b after any zs cut text parts).1 in
-    no_other_part after no_comma no_close onward.parts onward.cut
+    text_at : (r : List Kind) → (c : List Kind) × (us : List Expr) × (next ≡ c ++ r) × IsRest labels g (length ys) c us → (c : List Kind) × (us : List Expr) × (beyond ≡ c ++ r) × IsRest labels g (length (ys ++ (y ∷ []))) c us
+    text_at r part =
+        let here = comma_rest part.0 r is part.2 (rest_shape part.3) in
+        (here.1, here.3, rest_after here.0 here.1 r told here.5 here.6 here.4, subst (λ v. IsRest labels g v here.1 here.3) many here.6)
 
--- no parts follow where `)` does
-no_part : {q : Bool} {rest b : List Kind} {others : List Expr} (after : List Kind) → More q b others → k.Close ∷ rest ≡ b ++ (k.Close ∷ after) → others ≡ []
-no_part after last cut = refl
-no_part after (part text parts) cut = absurd (close_no_comma (heads cut))
+    prefix_at : (r c : List Kind) → next ≡ c ++ r → IsPrefix (IsRest labels g (length ys)) c → (min n m ≤ length r) ⊎ ((d : List Kind) × (beyond ≡ d ++ r) × IsPrefix (IsRest labels g (length (ys ++ (y ∷ [])))) d)
+    prefix_at r [] cut begins = inl (omega (arith, ap length cut, so_far.past))
+    prefix_at r (u ∷ c) cut begins =
+        let both : k.Comma ∷ after ≡ u ∷ (c ++ r) = sym is ∙ cut in
+        let here = comma_prefix u c begins.more (sym (heads both)) refl (rest_shape begins.text) in
+        ⊎_elim (λ short. inl (omega (arith, short))) (λ part. inr (part.0, part.1, subst (λ v. IsPrefix (IsRest labels g v) part.0) many part.2))
+        (rest_prefix c begins.more here.0 here.1 r told here.5 here.6 here.4 (tails both))
 
--- or where the function does not take so many parts
-pub no_call_count : {q : Bool} {ks rest : List Kind} {x : Expr} {ys : List Expr} (f : Func) → AreParts q ks x ys (k.Close ∷ rest) → takes f (length ys) ≡ false → NoCall q f ks
-no_call_count {ys = ys} f read unfit a b after any zs cut fits text parts =
-    let onward = (read.ahead a b after any zs cut text parts).1 in
-    let all : zs ≡ ys = onward.whole ∙ ap (λ w. ys ++ w) (no_part after onward.parts onward.cut) ∙ append-nil ys in
-    false_true (sym unfit ∙ ap (λ w. takes f (length w)) (sym all) ∙ fits)
+-- a comma, and no argument after it
+pub no_next : {labels : Labels} {g : Func} {ts next after : List Kind} {n m : ℕ} {x : Expr} {ys : List Expr} → ArgumentsSoFar labels g ts next n x ys → next ≡ k.Comma ∷ after
+    → takes g (length ys + 1) ≡ true → Missing (Derives labels rule.Conditional) after m → Missing (IsArguments labels g) ts (min n m)
+no_next {labels = labels} {g = g} {ts = ts} {next = next} {after = after} {n = n} {m = m} {ys = ys} so_far is fits none = record {
+  none = λ p r zs cut text.
+      let part = so_far.texts p r zs cut text in
+      let here = comma_rest part.0 r is part.2 (rest_shape part.3) in
+      none.none here.0 (here.1 ++ r) here.2 (here.4 ∙ append_assoc here.0 here.1 r) here.5;
+  reach = reach_begun
+      (begun_lesser n m so_far.begun
+      (begun_behind ((so_far.a ++ so_far.b) ++ (k.Comma ∷ [])) (so_far.cut ∙ ap (λ v. (so_far.a ++ so_far.b) ++ v) is ∙ sym (append_assoc (so_far.a ++ so_far.b) (k.Comma ∷ []) after))
+      (λ p begins. comma_begins so_far.first so_far.others fits begins) (begun none.reach)))
+      (λ p r cut begins. ⊎_elim (λ short. omega (arith, short)) (λ part. prefix_at r part.0 part.1 part.2) (so_far.prefixes p r cut begins));
+}
+  where
+    prefix_at : (r c : List Kind) → next ≡ c ++ r → IsPrefix (IsRest labels g (length ys)) c → min n m ≤ length r
+    prefix_at r [] cut begins = omega (arith, ap length cut, so_far.past)
+    prefix_at r (u ∷ c) cut begins =
+        let both : k.Comma ∷ after ≡ u ∷ (c ++ r) = sym is ∙ cut in
+        let here = comma_prefix u c begins.more (sym (heads both)) refl (rest_shape begins.text) in
+        ⊎_elim
+        (λ within. omega (arith, none.reach.furthest c r (tails both) (record { more = within.0; tree = here.2; text = subst (λ v. Derives labels rule.Conditional v here.2) within.1 here.5 })))
+        (λ over. absurd (none.none here.0 (over.0 ++ r) here.2 (tails both ∙ ap (λ v. v ++ r) over.1 ∙ append_assoc here.0 over.0 r) here.5))
+        (cut_twice c begins.more here.0 here.1 here.4)
 
--- a function that takes neither so many parts nor more does not take more
-takes_more : (f : Func) (some more : ℕ) → may_take f some ≡ false → takes f (some + more) ≡ true → ⊥
-takes_more f.Min some more unfit fits = false_true (sym unfit)
-takes_more f.Max some more unfit fits = false_true (sym unfit)
-takes_more f.Floor some more unfit fits = grind (arith, nat_tests)
-takes_more f.Ceil some more unfit fits = grind (arith, nat_tests)
-takes_more f.Pow some more unfit fits = grind (arith, nat_tests)
-takes_more f.Mod some more unfit fits = grind (arith, nat_tests)
+-- neither a comma nor `)`
+pub unclosed : {labels : Labels} {g : Func} {ts next : List Kind} {n : ℕ} {x : Expr} {ys : List Expr} → ArgumentsSoFar labels g ts next n x ys
+    → ((r : List Kind) → next ≡ k.Comma ∷ r → takes g (length ys + 1) ≡ true → ⊥) → ((r : List Kind) → next ≡ k.Close ∷ r → takes g (length ys) ≡ true → ⊥) → Missing (IsArguments labels g) ts n
+unclosed {labels = labels} {g = g} {ts = ts} {next = next} {n = n} {ys = ys} so_far no_comma no_close = record {
+  none = λ p r zs cut text. let part = so_far.texts p r zs cut text in no_rest part.0 r part.2 (rest_shape part.3);
+  reach = reach_begun so_far.begun (λ p r cut begins. ⊎_elim (λ short. short) (λ part. prefix_at r part.0 part.1 part.2) (so_far.prefixes p r cut begins));
+}
+  where
+    no_rest : (c r : List Kind) → next ≡ c ++ r → RestShape labels g (length ys) c → ⊥
+    no_rest c r cut (closes here fits) = no_close r (cut ∙ ap (λ v. v ++ r) here) fits
+    no_rest c r cut (goes a b z zs here fits first more) = no_comma ((a ++ b) ++ r) (cut ∙ ap (λ v. v ++ r) here) fits
 
--- or takes neither so many nor more
-pub no_call_many : {q : Bool} {ks rest : List Kind} {x : Expr} {ys : List Expr} (f : Func) → AreParts q ks x ys rest → may_take f (length ys) ≡ false → NoCall q f ks
-no_call_many {ys = ys} f read unfit a b after any zs cut fits text parts =
-    let onward = (read.ahead a b after any zs cut text parts).1 in
-    takes_more f (length ys) (length onward.others) unfit (ap (takes f) (sym (length-append ys onward.others)) ∙ ap (λ w. takes f (length w)) (sym onward.whole) ∙ fits)
+    no_first : (u : Kind) (c more r : List Kind) {h : List Kind} → next ≡ u ∷ (c ++ r) → u ∷ (c ++ more) ≡ h → RestShape labels g (length ys) h → ⊥
+    no_first u c more r cut equal (closes here fits) = no_close (c ++ r) (cut ∙ ap (λ v. v ∷ (c ++ r)) (heads (equal ∙ here))) fits
+    no_first u c more r cut equal (goes a b z zs here fits first others) = no_comma (c ++ r) (cut ∙ ap (λ v. v ∷ (c ++ r)) (heads (equal ∙ here))) fits
 
--- no call of the function is no call at all
-no_call_at : {q : Bool} {t : Kind} {f : Func} {ks : List Kind} (after : List Kind) → function t ≡ Some f → NoCall q f ks → IsCall q t (k.Open ∷ ks) after → ⊥
-no_call_at {f = f} after is_function none made =
-    let function_same : made.f ≡ f = some_same (sym made.is_function ∙ is_function) in
-    none made.front made.further after made.first made.others (tails made.cut) (ap (λ g. takes g (length made.others)) (sym function_same) ∙ made.fits) made.text made.parts
+    prefix_at : (r c : List Kind) → next ≡ c ++ r → IsPrefix (IsRest labels g (length ys)) c → n ≤ length r
+    prefix_at r [] cut begins = omega (arith, ap length cut, so_far.past)
+    prefix_at r (u ∷ c) cut begins = absurd (no_first u c begins.more r cut refl (rest_shape begins.text))
 
--- a name of a function that is no call is a name
-pub name_alone : {q : Bool} {t : Kind} {f : Func} {ks : List Kind} {x : Expr} → atom q t ≡ Some x → function t ≡ Some f → NoCall q f ks
-    → IsLongest q line.Primary (t ∷ (k.Open ∷ ks)) x (k.Open ∷ ks)
-name_alone found is_function none = leaf_whole found (λ after made. no_call_at after is_function none made)
+-- `)` after all arguments
+pub arguments_whole : {labels : Labels} {g : Func} {ts next after : List Kind} {n : ℕ} {x : Expr} {ys : List Expr} → ArgumentsSoFar labels g ts next n x ys → next ≡ k.Close ∷ after → takes g (length ys) ≡ true
+    → (front : List Kind) × (ts ≡ front ++ after) × IsArguments labels g front (x ∷ ys)
+arguments_whole {g = g} {after = after} {ys = ys} so_far is fits =
+    let same : 0 + length ys ≡ length ys = omega arith in (
+      so_far.a ++ (so_far.b ++ (k.Close ∷ [])),
+      so_far.cut ∙ append_assoc so_far.a so_far.b _ ∙ ap (λ v. so_far.a ++ (so_far.b ++ v)) is ∙ ap (λ v. so_far.a ++ v) (sym (append_assoc so_far.b (k.Close ∷ []) after)) ∙ sym (append_assoc so_far.a (so_far.b ++ (k.Close ∷ [])) after),
+      arguments so_far.first (rest (ap (takes g) same ∙ fits) so_far.others),
+    )
 
--- and another function that is no call begins no primary
-pub no_call_none : {q : Bool} {t : Kind} {f : Func} {ks : List Kind} → atom q t ≡ None → function t ≡ Some f → NoCall q f ks → BeginsNoText q line.Primary (t ∷ (k.Open ∷ ks))
-no_call_none {t = t} {f = f} no_atom is_function none front after tree cut text =
-    none_whole after no_atom (λ is_open. open_no_function t f is_open is_function) (λ made. no_call_at after is_function none made) (primary_texts text) cut
+-- ---- the `(` before the arguments
+
+-- the arguments behind `(`
+pub called_behind : {labels : Labels} {g : Func} {ts us : List Kind} → ts ≡ k.Open ∷ us → Behind (IsArguments labels g) (IsCalled labels g) (λ xs. xs) ts us
+called_behind {labels = labels} {g = g} {ts = ts} {us = us} is = record {
+  before = k.Open ∷ [];
+  cut = is;
+  up = λ p xs text. called text;
+  texts = λ p r xs cut text. inr (opened is p r xs cut text);
+  prefixes = λ p r cut begins. prefixes p r cut begins;
+}
+  where
+    opened : ts ≡ k.Open ∷ us → (p r : List Kind) (xs : List Expr) → ts ≡ p ++ r → IsCalled labels g p xs → (q : List Kind) × (zs : List Expr) × (us ≡ q ++ r) × IsArguments labels g q zs
+    opened here p r xs cut (called {a = a} text) = (a, xs, tails (sym here ∙ cut), text)
+
+    inside : {h : List Kind} {xs : List Expr} (u : Kind) (p more : List Kind) → IsCalled labels g h xs → u ∷ (p ++ more) ≡ h → IsPrefix (IsArguments labels g) p
+    inside {xs = xs} u p more (called {a = a} text) equal = record { more = more; tree = xs; text = subst (λ v. IsArguments labels g v xs) (sym (tails equal)) text }
+
+    prefixes : (p r : List Kind) → ts ≡ p ++ r → IsPrefix (IsCalled labels g) p → (length us ≤ length r) ⊎ ((q : List Kind) × (us ≡ q ++ r) × IsPrefix (IsArguments labels g) q)
+    prefixes [] r cut begins = inl (omega (arith, ap length cut, ap length is))
+    prefixes (u ∷ p) r cut begins = inr (p, tails (sym is ∙ cut), inside u p begins.more begins.text refl)
+
+-- and no other way
+pub called_text : {labels : Labels} {g : Func} {ts us : List Kind} → ts ≡ k.Open ∷ us → (p r : List Kind) (xs : List Expr) → ts ≡ p ++ r → IsCalled labels g p xs
+    → (q : List Kind) × (zs : List Expr) × (us ≡ q ++ r) × IsArguments labels g q zs
+called_text is p r xs cut (called {a = a} text) = (a, xs, tails (sym is ∙ cut), text)
+
+-- no `(`
+pub unopened : {labels : Labels} {g : Func} {ts : List Kind} → ((r : List Kind) → ts ≡ k.Open ∷ r → ⊥) → Missing (IsCalled labels g) ts (length ts)
+unopened {labels = labels} {g = g} {ts = ts} none = record {
+  none = λ p r xs cut text. no_text p r xs cut text;
+  reach = reach_nil (nothing (least_rest labels g)) (λ p r cut begins. empty p r cut begins);
+}
+  where
+    no_text : (p r : List Kind) (xs : List Expr) → ts ≡ p ++ r → IsCalled labels g p xs → ⊥
+    no_text p r xs cut (called {a = a} text) = none (a ++ r) cut
+
+    nothing : LeastRest labels g → IsPrefix (IsCalled labels g) []
+    nothing least = record { more = k.Open ∷ ((k.True ∷ []) ++ least.tokens); tree = e.Truth true ∷ least.trees; text = called (arguments (truth rule.Conditional) least.text) }
+
+    first : {h : List Kind} {xs : List Expr} (u : Kind) (p : List Kind) → IsCalled labels g h xs → u ∷ p ≡ h → u ≡ k.Open
+    first u p (called text) equal = heads equal
+
+    empty : (p r : List Kind) → ts ≡ p ++ r → IsPrefix (IsCalled labels g) p → p ≡ []
+    empty [] r cut begins = refl
+    empty (u ∷ p) r cut begins = absurd (none (p ++ r) (cut ∙ ap (λ v. v ∷ (p ++ r)) (first u (p ++ begins.more) begins.text refl)))

@@ -1,135 +1,235 @@
--- When what is read so far is the longest text of a chain.
-use Rattle.std.proofs.Common.{◌≡◌, ◌≤◌, Bool, true, List, [], ◌∷◌, ◌++◌, length, Some, None, ◌⊎◌, inl, inr, ⊎_elim, sym, ap, ◌∙◌, subst, arith}
+-- A chain as its operands are parsed one after another.
+use Rattle.std.proofs.Common.{◌≡◌, ℕ, ◌+◌, ◌≤◌, min, true, List, [], ◌∷◌, ◌++◌, length, Some, refl, sym, ap, ◌∙◌, subst, ◌⊎◌, inl, inr, ⊎_elim, arith}
+use Rattle.std.specs.Prelude.{IsSome}
 use Rattle.std.proofs.lemmas.List.{append_assoc, append-nil, length-append}
-use Rattle.std.proofs.lemmas.Option.{none-some}
+use Rattle.prism_syntax.specs.declared.labels.Labels.{Labels}
 use Rattle.prism_syntax.specs.declared.tokens.Kind.{Kind}
 use Rattle.prism_syntax.specs.declared.expressions.Expr.{Expr}
 use Rattle.prism_syntax.specs.declared.expressions.Op.{Op}
-use Rattle.prism_syntax.specs.declared.lines.Line.{Line}
-use Rattle.prism_syntax.specs.Lines.{inner, is_chain, operator}
-use Rattle.prism_syntax.specs.Expressions.{In, chain, Links, end, link, level, IsLongest, BeginsNoText}
-use Rattle.prism_expression.proofs.RankLemmas.{operator_chain}
+use Rattle.prism_syntax.specs.declared.precedence.Precedence.{Precedence}
+use Rattle.prism_syntax.specs.Precedence.{inner, is_chain, operator}
+use Rattle.prism_syntax.specs.Expressions.{Derives, chain, ChainTail, end, link, level}
+use Rattle.prism_reading.specs.Reach.{IsPrefix, IsReach}
+use Rattle.prism_reading.proofs.ReachLemmas.{Begun, begun, begun_behind, begun_lesser, reach_begun, reach_same, whole_prefix, cut_twice, heads, tails}
+use Rattle.prism_expression.specs.Follow.{goes_on}
+use Rattle.prism_expression.proofs.RankLemmas.{operand_stops}
 use Rattle.prism_expression.proofs.TextLemmas.{ChainText, chain_text, chain_texts}
-use Rattle.prism_expression.proofs.TwoTextLemmas.{heads, tails, after_operand}
-use Rattle.prism_expression.proofs.CompareLemmas.{longest_compared}
+use Rattle.prism_expression.proofs.FoundLemmas.{Found, Missing, past_rest}
+use Rattle.prism_expression.proofs.NextLemmas.{next_text}
 
--- a text of the line that ends before `after` goes beyond what was read by these links
-pub record Onward (q : Bool) (l : Line) (rest after : List Kind) : Type 0 where
-  pub front : List Kind
-  pub others : List Expr
+-- tokens are a prefix of further operands of a chain
+pub record BeginsTail (labels : Labels) (l : Precedence) (c : List Kind) : Type 0 where
+  pub more : List Kind
+  pub operands : List Expr
   pub operators : List Op
-  pub cut : rest ≡ front ++ after
-  pub links : Links q l front others operators
+  pub tail : ChainTail labels l (c ++ more) operands operators
 
--- an operand and links of a chain have been read, and each text of the line ends within them or goes on by links after them
-pub record IsChained (q : Bool) (l : Line) (ks : List Kind) (x : Expr) (ys : List Expr) (os : List Op) (rest : List Kind) : Type 0 where
-  pub first : List Kind
-  pub further : List Kind
-  pub cut : ks ≡ first ++ (further ++ rest)
-  pub operand : In q (inner l) first x
-  pub links : Links q l further ys os
-  pub ahead : (other after : List Kind) (any : Expr) → ks ≡ other ++ after → In q l other any → (length rest ≤ length after) ⊎ Onward q l rest after
+-- further operands begin with an operator, which goes on no operand before them
+tail_stops : {labels : Labels} {l : Precedence} {c : List Kind} {ys : List Expr} {os : List Op} → is_chain l ≡ true → ChainTail labels l c ys os → (t : Kind) (d : List Kind) → c ≡ t ∷ d → goes_on (inner l) t ≡ true → ⊥
+tail_stops is_true end t d is goes = cc
+tail_stops {l = l} is_true (link {t = u} {o = o} found operand tail) t d is goes = operand_stops l u o is_true found (subst (λ v. goes_on (inner l) v ≡ true) (sym (heads is)) goes)
 
--- an operand and links at the front of the tokens end within the longest operand, or go on by links after it
-operand_ahead : {q : Bool} {l : Line} {ks rest : List Kind} {x y : Expr} {ys : List Expr} {os : List Op} (a b after : List Kind)
-    → is_chain l ≡ true → IsLongest q (inner l) ks x rest → In q (inner l) a y → Links q l b ys os → ks ≡ a ++ (b ++ after)
-    → (length rest ≤ length after) ⊎ Onward q l rest after
-operand_ahead {ys = ys} {os = os} a b after is_true longest operand links cut =
-    ⊎_elim
-    (λ both. inr (record { front = b; others = ys; operators = os; cut = both.0; links = links }))
-    (λ beyond. let stop = after_operand after is_true links beyond.1 in inl (omega (arith, ap length stop.0, beyond.0)))
-    (longest_compared (b ++ after) longest cut operand)
+-- so do their prefixes
+begun_stops : {labels : Labels} {l : Precedence} {c : List Kind} → is_chain l ≡ true → BeginsTail labels l c → (t : Kind) (d : List Kind) → c ≡ t ∷ d → goes_on (inner l) t ≡ true → ⊥
+begun_stops is_true begins t d is goes = tail_stops is_true begins.tail t (d ++ begins.more) (ap (λ v. v ++ begins.more) is) goes
 
--- a chain at the front of the tokens ends within the longest operand, or goes on by links after it
-begun_ahead : {q : Bool} {l : Line} {ks rest other : List Kind} {x any : Expr} (after : List Kind) → is_chain l ≡ true → IsLongest q (inner l) ks x rest → ChainText q l other any
-    → ks ≡ other ++ after → (length rest ≤ length after) ⊎ Onward q l rest after
-begun_ahead after is_true longest (chain_text {a = a} {b = b} operand links) cut = operand_ahead a b after is_true longest operand links (cut ∙ append_assoc a b after)
+-- a further operand at the end
+pub tail_more : {labels : Labels} {l : Precedence} {b : List Kind} {ys : List Expr} {os : List Op} (t : Kind) (o : Op) (a : List Kind) (y : Expr) → ChainTail labels l b ys os → operator l t ≡ Some o → Derives labels (inner l) a y
+    → ChainTail labels l (b ++ (t ∷ a)) (ys ++ (y ∷ [])) (os ++ (o ∷ []))
+tail_more {labels = labels} {l = l} t o a y end found text = subst (λ v. ChainTail labels l (t ∷ v) (y ∷ []) (o ∷ [])) (append-nil a) (link found text end)
+tail_more {labels = labels} {l = l} t o a y (link {t = u} {o = p} {a = c} {b = d} {y = z} {ys = zs} {os = ps} is operand tail) found text =
+    subst (λ v. ChainTail labels l (u ∷ v) (z ∷ (zs ++ (y ∷ []))) (p ∷ (ps ++ (o ∷ [])))) (sym (append_assoc c d (t ∷ a))) (link is operand (tail_more t o a y tail found text))
 
--- the longest first operand begins a chain
-pub chain_begun : {q : Bool} {l : Line} {ks rest : List Kind} {x : Expr} → is_chain l ≡ true → IsLongest q (inner l) ks x rest → IsChained q l ks x [] [] rest
-chain_begun is_true longest = record {
-  first = longest.front;
-  further = [];
-  cut = longest.cut;
-  operand = longest.text;
-  links = end;
-  ahead = λ other after any cut text. begun_ahead after is_true longest (chain_texts is_true text) cut;
+-- an operand begins a chain
+pub operand_begins : {labels : Labels} {l : Precedence} {f : List Kind} → is_chain l ≡ true → IsPrefix (Derives labels (inner l)) f → IsPrefix (Derives labels l) f
+operand_begins {labels = labels} {l = l} {f = f} is_true begins = record {
+  more = begins.more;
+  tree = begins.tree;
+  text = subst (λ v. Derives labels l v begins.tree) (append-nil (f ++ begins.more)) (chain is_true begins.text end);
 }
 
--- one more link after some
-links_more : {q : Bool} {l : Line} {b : List Kind} {ys : List Expr} {os : List Op} {y : Expr} {o : Op} (t : Kind) (a : List Kind)
-    → Links q l b ys os → operator l t ≡ Some o → In q (inner l) a y → Links q l (b ++ (t ∷ a)) (ys ++ (y ∷ [])) (os ++ (o ∷ []))
-links_more {q = q} {l = l} {y = y} {o = o} t a end found operand =
-    subst (λ z. Links q l (t ∷ z) (y ∷ []) (o ∷ [])) (append-nil a) (link found operand end)
-links_more {q = q} {l = l} {y = y} {o = o} t a (link {t = u} {o = p} {a = c} {b = d} {y = z} {ys = zs} {os = ps} is first links) found operand =
-    subst (λ w. Links q l (u ∷ w) (z ∷ (zs ++ (y ∷ []))) (p ∷ (ps ++ (o ∷ [])))) (sym (append_assoc c d (t ∷ a))) (link is first (links_more t a links found operand))
+-- a prefix of a chain ends inside its first operand, or begins further operands after it
+chain_prefixes : {labels : Labels} {l : Precedence} {ts rest : List Kind} {x : Expr} {n : ℕ} (f r : List Kind) → is_chain l ≡ true → Found (Derives labels (inner l)) ts x rest n
+    → ts ≡ f ++ r → IsPrefix (Derives labels l) f → (n ≤ length r) ⊎ ((c : List Kind) × (rest ≡ c ++ r) × BeginsTail labels l c)
+chain_prefixes {labels = labels} {l = l} {ts = ts} {rest = rest} {n = n} f r is_true told is begins = of (f ++ begins.more) begins.tree (chain_texts is_true begins.text) refl
+  where
+    of : (g : List Kind) (y : Expr) → ChainText labels l g y → f ++ begins.more ≡ g → (n ≤ length r) ⊎ ((c : List Kind) × (rest ≡ c ++ r) × BeginsTail labels l c)
+    of g y (chain_text {a = a} {b = b} {x = z} {ys = ys} {os = os} operand tail) equal =
+        ⊎_elim
+        (λ within. inl (told.reach.furthest f r is (record { more = within.0; tree = z; text = subst (λ v. Derives labels (inner l) v z) within.1 operand })))
+        (λ beyond.
+        let rest_begins : BeginsTail labels l beyond.0 = record { more = begins.more; operands = ys; operators = os; tail = subst (λ v. ChainTail labels l v ys os) beyond.2 tail } in
+        ⊎_elim (λ short. inl (omega (arith, short, past_rest told))) (λ next. inr (beyond.0, next, rest_begins))
+        (next_text a beyond.0 r z told operand (is ∙ ap (λ v. v ++ r) beyond.1 ∙ append_assoc a beyond.0 r) (begun_stops is_true rest_begins)))
+        (cut_twice f begins.more a b equal)
 
--- links that begin at an operator end within the longest operand after it, or go on after that
-linked_ahead : {q : Bool} {l : Line} {more rest b : List Kind} {t : Kind} {y : Expr} {zs : List Expr} {ps : List Op} (after : List Kind)
-    → is_chain l ≡ true → IsLongest q (inner l) more y rest → Links q l b zs ps → t ∷ more ≡ b ++ after → (length rest ≤ length after) ⊎ Onward q l rest after
-linked_ahead {rest = rest} after is_true longest end cut = inl (omega (arith, ap length cut, ap length longest.cut, length-append longest.front rest))
-linked_ahead after is_true longest (link {a = a} {b = b} found operand links) cut = operand_ahead a b after is_true longest operand links (tails cut ∙ append_assoc a b after)
+-- a chain is its first operand and further ones after it
+chain_text_at : {labels : Labels} {l : Precedence} {ts rest : List Kind} {x : Expr} {n : ℕ} (f r : List Kind) (y : Expr) → is_chain l ≡ true → Found (Derives labels (inner l)) ts x rest n
+    → ts ≡ f ++ r → ChainText labels l f y → (length rest ≤ length r) ⊎ ((c : List Kind) × (zs : List Expr) × (ps : List Op) × (rest ≡ c ++ r) × ChainTail labels l c zs ps)
+chain_text_at f r y is_true told is (chain_text {a = a} {b = b} {x = z} {ys = ys} {os = os} operand tail) =
+    ⊎_elim (λ short. inl short) (λ next. inr (b, ys, os, next, tail)) (next_text a b r z told operand (is ∙ append_assoc a b r) (tail_stops is_true tail))
 
--- an operator and the longest operand after it make the chain longer
-pub chain_linked : {q : Bool} {l : Line} {ks more rest : List Kind} {t : Kind} {o : Op} {x y : Expr} {ys : List Expr} {os : List Op}
-    → operator l t ≡ Some o → IsChained q l ks x ys os (t ∷ more) → IsLongest q (inner l) more y rest
-    → IsChained q l ks x (ys ++ (y ∷ [])) (os ++ (o ∷ [])) rest
-chain_linked {q = q} {l = l} {ks = ks} {more = more} {rest = rest} {t = t} {o = o} found chained longest = record {
-  first = chained.first;
-  further = chained.further ++ (t ∷ longest.front);
-  cut = chained.cut ∙ ap (λ z. chained.first ++ (chained.further ++ (t ∷ z))) longest.cut ∙ ap (λ z. chained.first ++ z) (sym (append_assoc chained.further (t ∷ longest.front) rest));
-  operand = chained.operand;
-  links = links_more t longest.front chained.links found longest.text;
-  ahead = λ other after any cut text.
-      ⊎_elim
-      (λ within. inl (omega (arith, within, ap length longest.cut, length-append longest.front rest)))
-      (λ (onward : Onward q l (t ∷ more) after). linked_ahead after (operator_chain l t o found) longest onward.links onward.cut)
-      (chained.ahead other after any cut text);
+-- the operands so far, and that each text and each prefix of one ends in them or goes on after them
+pub record ChainSoFar (labels : Labels) (l : Precedence) (ts rest : List Kind) (n : ℕ) (x : Expr) (ys : List Expr) (os : List Op) : Type 0 where
+  pub a : List Kind
+  pub b : List Kind
+  pub cut : ts ≡ (a ++ b) ++ rest
+  pub operand : Derives labels (inner l) a x
+  pub tail : ChainTail labels l b ys os
+  pub texts : (f r : List Kind) (y : Expr) → ts ≡ f ++ r → Derives labels l f y
+      → (length rest ≤ length r) ⊎ ((c : List Kind) × (zs : List Expr) × (ps : List Op) × (rest ≡ c ++ r) × ChainTail labels l c zs ps)
+  pub begun : Begun (IsPrefix (Derives labels l)) ts n
+  pub past : n ≤ length rest
+  pub prefixes : (f r : List Kind) → ts ≡ f ++ r → IsPrefix (Derives labels l) f → (n ≤ length r) ⊎ ((c : List Kind) × (rest ≡ c ++ r) × BeginsTail labels l c)
+
+-- no first operand
+pub chain_missing : {labels : Labels} {l : Precedence} {ts : List Kind} {n : ℕ} → is_chain l ≡ true → Missing (Derives labels (inner l)) ts n → Missing (Derives labels l) ts n
+chain_missing {labels = labels} {l = l} {ts = ts} is_true none = record {
+  none = λ f r y is text. no_text f r y is (chain_texts is_true text);
+  reach = reach_same (λ f begins. operand_begins is_true begins) (λ f r is begins. inside f r is begins (f ++ begins.more) begins.tree (chain_texts is_true begins.text) refl) none.reach;
+}
+  where
+    no_text : (f r : List Kind) (y : Expr) → ts ≡ f ++ r → ChainText labels l f y → ⊥
+    no_text f r y is (chain_text {a = a} {b = b} {x = z} operand tail) = none.none a (b ++ r) z (is ∙ append_assoc a b r) operand
+
+    inside : (f r : List Kind) → ts ≡ f ++ r → (begins : IsPrefix (Derives labels l) f) → (g : List Kind) (y : Expr) → ChainText labels l g y → f ++ begins.more ≡ g → IsPrefix (Derives labels (inner l)) f
+    inside f r is begins g y (chain_text {a = a} {b = b} {x = z} operand tail) equal =
+        ⊎_elim
+        (λ within. record { more = within.0; tree = z; text = subst (λ v. Derives labels (inner l) v z) within.1 operand })
+        (λ beyond. absurd (none.none a (beyond.0 ++ r) z (is ∙ ap (λ v. v ++ r) beyond.1 ∙ append_assoc a beyond.0 r) operand))
+        (cut_twice f begins.more a b equal)
+
+-- the first operand
+pub chain_first : {labels : Labels} {l : Precedence} {ts rest : List Kind} {x : Expr} {n : ℕ} → is_chain l ≡ true → Found (Derives labels (inner l)) ts x rest n → ChainSoFar labels l ts rest n x [] []
+chain_first {rest = rest} is_true told = record {
+  a = told.front;
+  b = [];
+  cut = told.cut ∙ ap (λ v. v ++ rest) (sym (append-nil told.front));
+  operand = told.text;
+  tail = end;
+  texts = λ f r y is text. chain_text_at f r y is_true told is (chain_texts is_true text);
+  begun = begun_behind [] refl (λ f begins. operand_begins is_true begins) (begun told.reach);
+  past = past_rest told;
+  prefixes = λ f r is begins. chain_prefixes f r is_true told is begins;
 }
 
--- a chain that no further links go on is the longest text
-chain_longest : {q : Bool} {l : Line} {ks rest : List Kind} {x : Expr} {ys : List Expr} {os : List Op} → is_chain l ≡ true → IsChained q l ks x ys os rest
-    → ((front after : List Kind) (others : List Expr) (operators : List Op) → Links q l front others operators → rest ≡ front ++ after → length rest ≤ length after)
-    → IsLongest q l ks (level x ys os) rest
-chain_longest {q = q} {l = l} {rest = rest} is_true chained stops = record {
-  front = chained.first ++ chained.further;
-  cut = chained.cut ∙ sym (append_assoc chained.first chained.further rest);
-  text = chain is_true chained.operand chained.links;
-  longest = λ other after any cut text.
-      ⊎_elim (λ within. within) (λ (onward : Onward q l rest after). stops onward.front after onward.others onward.operators onward.links onward.cut) (chained.ahead other after any cut text);
+-- an operator and what begins an operand after it begin the chain
+pub operator_begins : {labels : Labels} {l : Precedence} {f a b : List Kind} {x : Expr} {ys : List Expr} {os : List Op} (t : Kind) (o : Op) → is_chain l ≡ true → Derives labels (inner l) a x → ChainTail labels l b ys os
+    → operator l t ≡ Some o → IsPrefix (Derives labels (inner l)) f → IsPrefix (Derives labels l) (((a ++ b) ++ (t ∷ [])) ++ f)
+operator_begins {labels = labels} {l = l} {f = f} {a = a} {b = b} {x = x} {ys = ys} {os = os} t o is_true operand tail found begins = record {
+  more = begins.more;
+  tree = level x (ys ++ (begins.tree ∷ [])) (os ++ (o ∷ []));
+  text = subst (λ v. Derives labels l v (level x (ys ++ (begins.tree ∷ [])) (os ++ (o ∷ []))))
+      (sym (append_assoc a b (t ∷ (f ++ begins.more))) ∙ sym (append_assoc (a ++ b) (t ∷ []) (f ++ begins.more)) ∙ sym (append_assoc ((a ++ b) ++ (t ∷ [])) f begins.more))
+      (chain is_true operand (tail_more t o (f ++ begins.more) begins.tree tail found begins.text));
 }
 
--- a chain is the longest text at the end of the tokens
-pub chain_ended : {q : Bool} {l : Line} {ks : List Kind} {x : Expr} {ys : List Expr} {os : List Op}
-    → is_chain l ≡ true → IsChained q l ks x ys os [] → IsLongest q l ks (level x ys os) []
-chain_ended is_true chained = chain_longest is_true chained (λ front after others operators links cut. omega arith)
+-- one more operand
+pub chain_next : {labels : Labels} {l : Precedence} {ts rest after next : List Kind} {n m : ℕ} {x y : Expr} {ys : List Expr} {os : List Op} (t : Kind) (o : Op)
+    → is_chain l ≡ true → ChainSoFar labels l ts rest n x ys os → rest ≡ t ∷ after → operator l t ≡ Some o → Found (Derives labels (inner l)) after y next m
+    → ChainSoFar labels l ts next (min n m) x (ys ++ (y ∷ [])) (os ++ (o ∷ []))
+chain_next {labels = labels} {l = l} {ts = ts} {rest = rest} {after = after} {next = next} {n = n} {m = m} {y = y} t o is_true so_far rest_is found told = record {
+  a = so_far.a;
+  b = so_far.b ++ (t ∷ told.front);
+  cut = so_far.cut ∙ ap (λ v. (so_far.a ++ so_far.b) ++ v) rest_cut ∙ sym (append_assoc (so_far.a ++ so_far.b) (t ∷ told.front) next) ∙ ap (λ v. v ++ next) (append_assoc so_far.a so_far.b (t ∷ told.front));
+  operand = so_far.operand;
+  tail = tail_more t o told.front y so_far.tail found told.text;
+  texts = λ f r z is text. ⊎_elim (λ short. inl (omega (arith, short, shorter))) (λ tail. text_next r tail.0 tail.1 tail.2 tail.3 tail.4) (so_far.texts f r z is text);
+  begun = begun_lesser n m so_far.begun
+      (begun_behind ((so_far.a ++ so_far.b) ++ (t ∷ [])) (so_far.cut ∙ ap (λ v. (so_far.a ++ so_far.b) ++ v) rest_is ∙ sym (append_assoc (so_far.a ++ so_far.b) (t ∷ []) after))
+      (λ f begins. operator_begins t o is_true so_far.operand so_far.tail found begins) (begun told.reach));
+  past = omega (arith, past_rest told);
+  prefixes = λ f r is begins. ⊎_elim (λ short. inl (omega (arith, short))) (λ tail. prefix_next r tail.0 tail.1 tail.2) (so_far.prefixes f r is begins);
+}
+  where
+    rest_cut : rest ≡ (t ∷ told.front) ++ next
+    rest_cut = rest_is ∙ ap (λ v. t ∷ v) told.cut
 
--- no links begin with a token that is no operator
-stopped : {q : Bool} {l : Line} {more front : List Kind} {t : Kind} {others : List Expr} {operators : List Op} (after : List Kind)
-    → operator l t ≡ None → Links q l front others operators → t ∷ more ≡ front ++ after → length (t ∷ more) ≤ length after
-stopped after none end cut = omega (arith, ap length cut)
-stopped {l = l} after none (link {o = o} found operand links) cut = absurd (none-some o (sym none ∙ ap (operator l) (heads cut) ∙ found))
+    shorter : length next ≤ length rest
+    shorter = omega (arith, ap length rest_cut, length-append (t ∷ told.front) next)
 
--- and before a token that is no operator of the line
-pub chain_stopped : {q : Bool} {l : Line} {ks more : List Kind} {t : Kind} {x : Expr} {ys : List Expr} {os : List Op}
-    → is_chain l ≡ true → operator l t ≡ None → IsChained q l ks x ys os (t ∷ more) → IsLongest q l ks (level x ys os) (t ∷ more)
-chain_stopped is_true none chained = chain_longest is_true chained (λ front after others operators links cut. stopped after none links cut)
+    text_next : (r c : List Kind) (zs : List Expr) (ps : List Op) → rest ≡ c ++ r → ChainTail labels l c zs ps
+        → (length next ≤ length r) ⊎ ((d : List Kind) × (us : List Expr) × (qs : List Op) × (next ≡ d ++ r) × ChainTail labels l d us qs)
+    text_next r c zs ps equal end = inl (omega (arith, ap length equal, shorter))
+    text_next r c zs ps equal (link {t = u} {a = a} {b = b} {y = z} {ys = us} {os = qs} is operand tail) =
+        ⊎_elim (λ short. inl short) (λ beyond. inr (b, us, qs, beyond, tail))
+        (next_text a b r z told operand (tails (sym rest_is ∙ equal) ∙ append_assoc a b r) (tail_stops is_true tail))
 
--- nor with one after which no operand begins
-cut_off : {q : Bool} {l : Line} {more front : List Kind} {t : Kind} {others : List Expr} {operators : List Op} (after : List Kind)
-    → BeginsNoText q (inner l) more → Links q l front others operators → t ∷ more ≡ front ++ after → length (t ∷ more) ≤ length after
-cut_off after none end cut = omega (arith, ap length cut)
-cut_off after none (link {a = a} {b = b} {y = y} found operand links) cut = absurd (none a (b ++ after) y (tails cut ∙ append_assoc a b after) operand)
+    linked : (r d more g : List Kind) (zs : List Expr) (ps : List Op) → after ≡ d ++ r → ChainTail labels l g zs ps → t ∷ (d ++ more) ≡ g
+        → (min n m ≤ length r) ⊎ ((e : List Kind) × (next ≡ e ++ r) × BeginsTail labels l e)
+    linked r d more g zs ps equal end is = absurd (cc)
+    linked r d more g zs ps equal (link {t = u} {a = a} {b = b} {y = z} {ys = us} {os = qs} is_op operand tail) is =
+        ⊎_elim
+        (λ within. inl (omega (arith, told.reach.furthest d r equal (record { more = within.0; tree = z; text = subst (λ v. Derives labels (inner l) v z) within.1 operand }))))
+        (λ beyond.
+        let begins : BeginsTail labels l beyond.0 = record { more = more; operands = us; operators = qs; tail = subst (λ v. ChainTail labels l v us qs) beyond.2 tail } in
+        ⊎_elim (λ short. inl (omega (arith, short, past_rest told))) (λ goes. inr (beyond.0, goes, begins))
+        (next_text a beyond.0 r z told operand (equal ∙ ap (λ v. v ++ r) beyond.1 ∙ append_assoc a beyond.0 r) (begun_stops is_true begins)))
+        (cut_twice d more a b (tails is))
 
--- and before an operator after which no operand begins
-pub chain_cut : {q : Bool} {l : Line} {ks more : List Kind} {t : Kind} {x : Expr} {ys : List Expr} {os : List Op}
-    → is_chain l ≡ true → BeginsNoText q (inner l) more → IsChained q l ks x ys os (t ∷ more) → IsLongest q l ks (level x ys os) (t ∷ more)
-chain_cut is_true none chained = chain_longest is_true chained (λ front after others operators links cut. cut_off after none links cut)
+    prefix_next : (r c : List Kind) → rest ≡ c ++ r → BeginsTail labels l c → (min n m ≤ length r) ⊎ ((d : List Kind) × (next ≡ d ++ r) × BeginsTail labels l d)
+    prefix_next r [] equal begins = inl (omega (arith, ap length equal, so_far.past))
+    prefix_next r (u ∷ d) equal begins =
+        let both : t ∷ after ≡ u ∷ (d ++ r) = sym rest_is ∙ equal in
+        linked r d begins.more (u ∷ (d ++ begins.more)) begins.operands begins.operators (tails both) begins.tail (ap (λ v. v ∷ (d ++ begins.more)) (heads both))
 
--- no chain begins where no operand does
-no_operand : {q : Bool} {l : Line} {ks front : List Kind} {tree : Expr} (after : List Kind) → BeginsNoText q (inner l) ks → ChainText q l front tree → ks ≡ front ++ after → ⊥
-no_operand after none (chain_text {a = a} {b = b} {x = x} operand links) cut = none a (b ++ after) x (cut ∙ append_assoc a b after) operand
+-- tokens that begin with no operator have no further operands
+no_tail : {labels : Labels} {l : Precedence} {c : List Kind} {ys : List Expr} {os : List Op} → ((t : Kind) (o : Op) (d : List Kind) → c ≡ t ∷ d → operator l t ≡ Some o → ⊥) → ChainTail labels l c ys os → c ≡ []
+no_tail none end = refl
+no_tail none (link {t = t} {o = o} {a = a} {b = b} found operand tail) = absurd (none t o (a ++ b) refl found)
 
--- where no operand begins, no text of the chain does
-pub chain_none : {q : Bool} {l : Line} {ks : List Kind} → is_chain l ≡ true → BeginsNoText q (inner l) ks → BeginsNoText q l ks
-chain_none is_true none front after tree cut text = no_operand after none (chain_texts is_true text) cut
+-- no operator follows
+pub chain_end : {labels : Labels} {l : Precedence} {ts rest : List Kind} {n : ℕ} {x : Expr} {ys : List Expr} {os : List Op} → is_chain l ≡ true → ChainSoFar labels l ts rest n x ys os
+    → ((t : Kind) (r : List Kind) → rest ≡ t ∷ r → IsSome (operator l t) → ⊥) → Found (Derives labels l) ts (level x ys os) rest n
+chain_end {labels = labels} {l = l} {rest = rest} {n = n} is_true so_far none = record {
+  front = so_far.a ++ so_far.b;
+  cut = so_far.cut;
+  text = chain is_true so_far.operand so_far.tail;
+  longest = λ f r y is text. ⊎_elim (λ short. short) (λ tail. no_text r tail.0 tail.3 tail.4) (so_far.texts f r y is text);
+  reach = reach_begun so_far.begun (λ f r is begins. ⊎_elim (λ short. short) (λ tail. no_prefix r tail.0 tail.1 tail.2) (so_far.prefixes f r is begins));
+}
+  where
+    some : (t : Kind) (o : Op) → operator l t ≡ Some o → IsSome (operator l t)
+    some t o found = subst IsSome (sym found) refl
+
+    no_text : {zs : List Expr} {ps : List Op} (r c : List Kind) → rest ≡ c ++ r → ChainTail labels l c zs ps → length rest ≤ length r
+    no_text r c equal tail = let nothing : c ≡ [] = no_tail (λ t o d is found. none t (d ++ r) (equal ∙ ap (λ v. v ++ r) is) (some t o found)) tail in omega (arith, ap length equal, ap length nothing, length-append c r)
+
+    no_prefix : (r c : List Kind) → rest ≡ c ++ r → BeginsTail labels l c → n ≤ length r
+    no_prefix r [] equal begins = omega (arith, ap length equal, so_far.past)
+    no_prefix r (u ∷ d) equal begins =
+        let nothing : u ∷ (d ++ begins.more) ≡ [] = no_tail (λ t o e is found. none t (d ++ r) (equal ∙ ap (λ v. v ∷ (d ++ r)) (heads is)) (some t o found)) begins.tail in
+        absurd (cc)
+
+-- an operator follows, and no operand after it
+pub chain_stop : {labels : Labels} {l : Precedence} {ts rest after : List Kind} {n m : ℕ} {x : Expr} {ys : List Expr} {os : List Op} (t : Kind) (o : Op) → is_chain l ≡ true → ChainSoFar labels l ts rest n x ys os
+    → rest ≡ t ∷ after → operator l t ≡ Some o → Missing (Derives labels (inner l)) after m → Found (Derives labels l) ts (level x ys os) rest (min n m)
+chain_stop {labels = labels} {l = l} {ts = ts} {rest = rest} {after = after} {n = n} {m = m} t o is_true so_far rest_is found none = record {
+  front = so_far.a ++ so_far.b;
+  cut = so_far.cut;
+  text = chain is_true so_far.operand so_far.tail;
+  longest = λ f r y is text. ⊎_elim (λ short. short) (λ tail. no_text r tail.0 tail.3 tail.4) (so_far.texts f r y is text);
+  reach = reach_begun
+      (begun_lesser n m so_far.begun
+      (begun_behind ((so_far.a ++ so_far.b) ++ (t ∷ [])) (so_far.cut ∙ ap (λ v. (so_far.a ++ so_far.b) ++ v) rest_is ∙ sym (append_assoc (so_far.a ++ so_far.b) (t ∷ []) after))
+      (λ f begins. operator_begins t o is_true so_far.operand so_far.tail found begins) (begun none.reach)))
+      (λ f r is begins. ⊎_elim (λ short. omega (arith, short)) (λ tail. in_operand r tail.0 tail.1 tail.2) (so_far.prefixes f r is begins));
+}
+  where
+    no_text : {zs : List Expr} {ps : List Op} (r c : List Kind) → rest ≡ c ++ r → ChainTail labels l c zs ps → length rest ≤ length r
+    no_text r c equal end = omega (arith, ap length equal)
+    no_text r c equal (link {a = a} {b = b} {y = z} is operand tail) = absurd (none.none a (b ++ r) z (tails (sym rest_is ∙ equal) ∙ append_assoc a b r) operand)
+
+    linked : (r d more g : List Kind) (zs : List Expr) (ps : List Op) → after ≡ d ++ r → ChainTail labels l g zs ps → t ∷ (d ++ more) ≡ g → m ≤ length r
+    linked r d more g zs ps equal end is = absurd (cc)
+    linked r d more g zs ps equal (link {a = a} {b = b} {y = z} is_op operand tail) is =
+        ⊎_elim
+        (λ within. none.reach.furthest d r equal (record { more = within.0; tree = z; text = subst (λ v. Derives labels (inner l) v z) within.1 operand }))
+        (λ beyond. absurd (none.none a (beyond.0 ++ r) z (equal ∙ ap (λ v. v ++ r) beyond.1 ∙ append_assoc a beyond.0 r) operand))
+        (cut_twice d more a b (tails is))
+
+    in_operand : (r c : List Kind) → rest ≡ c ++ r → BeginsTail labels l c → min n m ≤ length r
+    in_operand r [] equal begins = omega (arith, ap length equal, so_far.past)
+    in_operand r (u ∷ d) equal begins =
+        let both : t ∷ after ≡ u ∷ (d ++ r) = sym rest_is ∙ equal in
+        omega (arith, linked r d begins.more (u ∷ (d ++ begins.more)) begins.operands begins.operators (tails both) begins.tail (ap (λ v. v ∷ (d ++ begins.more)) (heads both)))

@@ -1,129 +1,183 @@
--- When what is read so far is the longest primary: tokens, and expressions in parentheses.
-use Rattle.std.proofs.Common.{◌≡◌, ◌≤◌, Bool, true, List, [], ◌∷◌, ◌++◌, length, Some, None, refl, sym, ap, ◌∙◌, arith}
-use Rattle.std.proofs.lemmas.List.{append_assoc}
+-- Primaries: expressions in parentheses, calls, and tokens that stand alone.
+use Rattle.std.proofs.Common.{◌≡◌, ℕ, ◌+◌, ◌≤◌, true, List, [], ◌∷◌, ◌++◌, length, Some, None, refl, sym, ap, ◌∙◌, subst, ◌⊎◌, inl, inr, ⊎_elim, arith}
+use Rattle.std.proofs.lemmas.List.{append_assoc, append-nil, length-append}
 use Rattle.std.proofs.lemmas.Option.{none-some}
+use Rattle.prism_syntax.specs.declared.labels.Labels.{Labels}
 use Rattle.prism_syntax.specs.declared.tokens.Kind.{Kind}
 use Rattle.prism_syntax.specs.declared.tokens.Kind.TheVariants as k
 use Rattle.prism_syntax.specs.declared.expressions.Expr.{Expr}
 use Rattle.prism_syntax.specs.declared.expressions.Expr.TheVariants as e
 use Rattle.prism_syntax.specs.declared.expressions.Func.{Func}
-use Rattle.prism_syntax.specs.declared.lines.Line.TheVariants as line
-use Rattle.prism_syntax.specs.Lines.{atom, function, takes}
-use Rattle.prism_syntax.specs.Expressions.{In, leaf, paren, More, IsLongest, BeginsNoText}
+use Rattle.prism_syntax.specs.declared.precedence.Precedence.TheVariants as rule
+use Rattle.prism_syntax.specs.Precedence.{atom, function, takes}
+use Rattle.prism_syntax.specs.Expressions.{Derives, leaf, paren, call}
+use Rattle.prism_reading.specs.Reach.{IsPrefix, IsReach}
+use Rattle.prism_reading.specs.Sequences.{Ended, ended}
+use Rattle.prism_reading.proofs.ReachLemmas.{whole_prefix, reach_nil, heads, tails}
+use Rattle.prism_expression.specs.Parts.{rest, arguments, IsCalled, called}
 use Rattle.prism_expression.proofs.TextLemmas.{PrimaryText, leaf_text, paren_text, call_text, primary_texts}
-use Rattle.prism_expression.proofs.TwoTextLemmas.{heads, tails}
-use Rattle.prism_expression.proofs.TwoPrimaryLemmas.{open_no_atom, open_no_function, parts_cut}
-use Rattle.prism_expression.proofs.CompareLemmas.{closed}
-use Rattle.prism_expression.proofs.LongestLemmas.{BeginsNot}
+use Rattle.prism_expression.proofs.TwoTextLemmas.{some_same}
+use Rattle.prism_expression.proofs.TwoPrimaryLemmas.{open_no_atom, open_no_function}
+use Rattle.prism_expression.proofs.TruthLemmas.{derives_nothing}
+use Rattle.prism_expression.proofs.FoundLemmas.{Found, Missing, Behind, behind_reach}
 
--- the parts of a call of the function stand between the tokens after it and what is after the call
-pub record IsCall (q : Bool) (t : Kind) (ks after : List Kind) : Type 0 where
-  pub f : Func
-  pub front : List Kind
-  pub further : List Kind
-  pub first : Expr
-  pub others : List Expr
-  pub is_function : function t ≡ Some f
-  pub fits : takes f (length others) ≡ true
-  pub cut : ks ≡ k.Open ∷ (front ++ (further ++ (k.Close ∷ after)))
-  pub text : In q line.Choice front first
-  pub parts : More q further others
+-- an expression up to `)`
+abbrev Closed : Labels → List Kind → Expr → Type 0
+Closed labels = Ended (Derives labels rule.Conditional) k.Close
 
--- a primary that begins with an expression ends after it, or is a call
-leaf_within : {q : Bool} {t : Kind} {ks other : List Kind} {x any : Expr} (after : List Kind) → atom q t ≡ Some x → (IsCall q t ks after → ⊥) → PrimaryText q other any → t ∷ ks ≡ other ++ after
-    → length ks ≤ length after
-leaf_within after found no_call (leaf_text is) cut = omega (arith, ap length (tails cut))
-leaf_within {q = q} {t = t} {x = x} after found no_call (paren_text inside) cut = absurd (open_no_atom q t x (heads cut) found)
-leaf_within after found no_call (call_text {f = f} {a = a} {b = b} {x = y} {ys = ys} is fits text parts) cut = absurd (no_call (record {
-  f = f;
-  front = a;
-  further = b;
-  first = y;
-  others = ys;
-  is_function = ap function (heads cut) ∙ is;
-  fits = fits;
-  cut = tails cut ∙ ap (λ z. k.Open ∷ z) (parts_cut a b after);
-  text = text;
-  parts = parts;
-}))
+-- what stands after the first token of a primary
+data After (labels : Labels) (t : Kind) (g : List Kind) : Type 0 where
+  alone : (x : Expr) → atom labels t ≡ Some x → g ≡ [] → After labels t g
+  in_parens : (x : Expr) → t ≡ k.Open → Closed labels g x → After labels t g
+  of_call : (f : Func) (xs : List Expr) → function t ≡ Some f → IsCalled labels f g xs → After labels t g
 
--- a token that is an expression is the longest primary where no call begins with it
-pub leaf_whole : {q : Bool} {t : Kind} {ks : List Kind} {x : Expr} → atom q t ≡ Some x → ((after : List Kind) → IsCall q t ks after → ⊥) → IsLongest q line.Primary (t ∷ ks) x ks
-leaf_whole {t = t} found no_call = record {
+after : {labels : Labels} {h : List Kind} {y : Expr} (t : Kind) (g : List Kind) → PrimaryText labels h y → t ∷ g ≡ h → After labels t g
+after {labels = labels} t g (leaf_text {x = x} found) is = alone x (ap (atom labels) (heads is) ∙ found) (tails is)
+after {labels = labels} t g (paren_text {a = a} {x = x} text) is = in_parens x (heads is) (subst (λ v. Closed labels v x) (sym (tails is)) (ended text))
+after {labels = labels} t g (call_text {f = f} {a = a} {b = b} {x = x} {ys = ys} found fits first more) is =
+    let same : 0 + length ys ≡ length ys = omega arith in
+    of_call f (x ∷ ys) (ap function (heads is) ∙ found) (subst (λ v. IsCalled labels f v (x ∷ ys)) (sym (tails is)) (called (arguments first (rest (ap (takes f) same ∙ fits) more))))
+
+-- no primary is empty
+some_token : {labels : Labels} {h : List Kind} {y : Expr} → PrimaryText labels h y → h ≡ [] → ⊥
+some_token (leaf_text found) is = cc
+some_token (paren_text text) is = cc
+some_token (call_text found fits first more) is = cc
+
+-- a primary at the front of tokens whose first is known
+after_text : {labels : Labels} {ts us : List Kind} (t : Kind) (f r : List Kind) (y : Expr) → ts ≡ t ∷ us → ts ≡ f ++ r → Derives labels rule.Primary f y → (g : List Kind) × (us ≡ g ++ r) × After labels t g
+after_text t [] r y is cut text = absurd (some_token (primary_texts text) refl)
+after_text {labels = labels} {us = us} t (u ∷ f) r y is cut text =
+    let both : t ∷ us ≡ u ∷ (f ++ r) = sym is ∙ cut in
+    (f, tails both, after t f (primary_texts text) (ap (λ v. v ∷ f) (heads both)))
+
+-- and a prefix of one: nothing, or the first token and a prefix of what stands after it
+after_prefix : {labels : Labels} {ts us : List Kind} (t : Kind) (f r : List Kind) → ts ≡ t ∷ us → ts ≡ f ++ r → IsPrefix (Derives labels rule.Primary) f
+    → (f ≡ []) ⊎ ((g : List Kind) × (more : List Kind) × (f ≡ t ∷ g) × (us ≡ g ++ r) × After labels t (g ++ more))
+after_prefix t [] r is cut begins = inl refl
+after_prefix {us = us} t (u ∷ f) r is cut begins =
+    let both : t ∷ us ≡ u ∷ (f ++ r) = sym is ∙ cut in
+    inr (f, begins.more, ap (λ v. v ∷ f) (sym (heads both)), tails both, after t (f ++ begins.more) (primary_texts begins.text) (ap (λ v. v ∷ (f ++ begins.more)) (heads both)))
+
+-- ---- parentheses
+
+closed_paren : {labels : Labels} {g : List Kind} {x : Expr} → Closed labels g x → Derives labels rule.Primary (k.Open ∷ g) (e.Paren x)
+closed_paren (ended text) = paren text
+
+opened : {labels : Labels} {t : Kind} {g : List Kind} → t ≡ k.Open → After labels t g → (x : Expr) × Closed labels g x
+opened {labels = labels} {t = t} is (alone x found none) = absurd (open_no_atom labels t x is found)
+opened is (in_parens x shown text) = (x, text)
+opened {t = t} is (of_call f xs found text) = absurd (open_no_function t f is found)
+
+-- an expression behind `(`
+pub paren_behind : {labels : Labels} {ts us : List Kind} → ts ≡ k.Open ∷ us → Behind (Closed labels) (Derives labels rule.Primary) e.Paren ts us
+paren_behind {labels = labels} {ts = ts} {us = us} is = record {
+  before = k.Open ∷ [];
+  cut = is;
+  up = λ g x text. closed_paren text;
+  texts = λ f r y cut text. let p = after_text k.Open f r y is cut text in let q = opened refl p.2 in inr (p.0, q.0, p.1, q.1);
+  prefixes = λ f r cut begins. ⊎_elim (λ none. inl (omega (arith, ap length cut, ap length none, ap length is, length-append f r)))
+      (λ p. let q = opened refl p.4 in inr (p.0, p.3, record { more = p.1; tree = q.0; text = q.1 })) (after_prefix k.Open f r is cut begins);
+}
+
+-- and no other way
+pub paren_text_at : {labels : Labels} {ts us : List Kind} → ts ≡ k.Open ∷ us → (f r : List Kind) (y : Expr) → ts ≡ f ++ r → Derives labels rule.Primary f y
+    → (g : List Kind) × (x : Expr) × (us ≡ g ++ r) × Closed labels g x
+paren_text_at is f r y cut text = let p = after_text k.Open f r y is cut text in let q = opened refl p.2 in (p.0, q.0, p.1, q.1)
+
+-- ---- calls
+
+pub called_call : {labels : Labels} {t : Kind} {f : Func} {g : List Kind} {xs : List Expr} → function t ≡ Some f → IsCalled labels f g xs → Derives labels rule.Primary (t ∷ g) (e.Call f xs)
+called_call {f = f} is (called (arguments {ys = ys} first (rest fits more))) = let same : length ys ≡ 0 + length ys = omega arith in call is (ap (takes f) same ∙ fits) first more
+
+named : {labels : Labels} {t : Kind} {f : Func} {g : List Kind} → function t ≡ Some f → After labels t g → (g ≡ []) ⊎ ((xs : List Expr) × IsCalled labels f g xs)
+named is (alone x found none) = inl none
+named {t = t} {f = f} is (in_parens x shown text) = absurd (open_no_function t f shown is)
+named {labels = labels} {g = g} is (of_call f xs found text) = inr (xs, subst (λ v. IsCalled labels v g xs) (some_same (sym found ∙ is)) text)
+
+-- the arguments behind the name of a function
+pub call_behind : {labels : Labels} {f : Func} {ts us : List Kind} (t : Kind) → function t ≡ Some f → ts ≡ t ∷ us → Behind (IsCalled labels f) (Derives labels rule.Primary) (e.Call f) ts us
+call_behind {labels = labels} {f = f} {ts = ts} {us = us} t is_function is = record {
+  before = t ∷ [];
+  cut = is;
+  up = λ g xs text. called_call is_function text;
+  texts = λ g r y cut text. let p = after_text t g r y is cut text in
+      ⊎_elim (λ none. inl (omega (arith, ap length p.1, ap length none, length-append p.0 r))) (λ q. inr (p.0, q.0, p.1, q.1)) (named is_function p.2);
+  prefixes = λ g r cut begins. ⊎_elim (λ none. inl (omega (arith, ap length cut, ap length none, ap length is, length-append g r)))
+      (λ p. ⊎_elim (λ none. inl (omega (arith, ap length p.3, ap length none, length-append p.0 r, length-append p.0 p.1)))
+      (λ q. inr (p.0, p.3, record { more = p.1; tree = q.0; text = q.1 })) (named is_function p.4))
+      (after_prefix t g r is cut begins);
+}
+
+-- a word that is no name, and no call
+pub word_missing : {labels : Labels} {f : Func} {ts us : List Kind} {n : ℕ} (t : Kind) → function t ≡ Some f → ts ≡ t ∷ us → atom labels t ≡ None → Missing (IsCalled labels f) us n → Missing (Derives labels rule.Primary) ts n
+word_missing {labels = labels} {f = f} {us = us} t is_function is no_atom none = record {
+  none = λ g r y cut text. let p = after_text t g r y is cut text in no_text p.0 r p.1 p.2;
+  reach = behind_reach (call_behind t is_function is) none.reach;
+}
+  where
+    no_text : (g r : List Kind) → us ≡ g ++ r → After labels t g → ⊥
+    no_text g r cut (alone x found nothing) = none-some x (sym no_atom ∙ found)
+    no_text g r cut (in_parens x shown text) = open_no_function t f shown is_function
+    no_text g r cut (of_call h xs found text) = none.none g r xs cut (subst (λ v. IsCalled labels v g xs) (some_same (sym found ∙ is_function)) text)
+
+-- a name that could be called, and no call
+pub name_found : {labels : Labels} {f : Func} {ts us : List Kind} {x : Expr} {n : ℕ} (t : Kind) → function t ≡ Some f → ts ≡ t ∷ us → atom labels t ≡ Some x → Missing (IsCalled labels f) us n → Found (Derives labels rule.Primary) ts x us n
+name_found {labels = labels} t is_function is is_atom none = record {
   front = t ∷ [];
-  cut = refl;
-  text = leaf found;
-  longest = λ other after any cut text. leaf_within after found (no_call after) (primary_texts text) cut;
+  cut = is;
+  text = leaf is_atom;
+  longest = λ g r y cut text. let p = after_text t g r y is cut text in
+      ⊎_elim (λ nothing. omega (arith, ap length p.1, ap length nothing, length-append p.0 r)) (λ q. absurd (none.none p.0 r q.0 p.1 q.1)) (named is_function p.2);
+  reach = behind_reach (call_behind t is_function is) none.reach;
 }
 
--- no primary begins with a token that is no expression and no `(` where no call begins with it
-pub none_whole : {q : Bool} {t : Kind} {ks other : List Kind} {any : Expr} (after : List Kind) → atom q t ≡ None → (t ≡ k.Open → ⊥) → (IsCall q t ks after → ⊥) → PrimaryText q other any
-    → t ∷ ks ≡ other ++ after → ⊥
-none_whole {q = q} after no_atom no_open no_call (leaf_text {x = x} is) cut = none-some x (sym no_atom ∙ ap (atom q) (heads cut) ∙ is)
-none_whole after no_atom no_open no_call (paren_text inside) cut = no_open (heads cut)
-none_whole after no_atom no_open no_call (call_text {f = f} {a = a} {b = b} {x = y} {ys = ys} is fits text parts) cut = no_call (record {
-  f = f;
-  front = a;
-  further = b;
-  first = y;
-  others = ys;
-  is_function = ap function (heads cut) ∙ is;
-  fits = fits;
-  cut = tails cut ∙ ap (λ z. k.Open ∷ z) (parts_cut a b after);
-  text = text;
-  parts = parts;
-})
+-- ---- tokens alone
 
--- a token that is an expression and no function is the longest primary
-pub leaf_longest : {q : Bool} {t : Kind} {ks : List Kind} {x : Expr} → atom q t ≡ Some x → function t ≡ None → IsLongest q line.Primary (t ∷ ks) x ks
-leaf_longest found no_function = leaf_whole found (λ after call. none-some call.f (sym no_function ∙ call.is_function))
+single : {labels : Labels} {t : Kind} {x : Expr} {g : List Kind} → atom labels t ≡ Some x → function t ≡ None → After labels t g → g ≡ []
+single is_atom no_function (alone y found none) = none
+single {labels = labels} {t = t} {x = x} is_atom no_function (in_parens y shown text) = absurd (open_no_atom labels t x shown is_atom)
+single is_atom no_function (of_call f xs found text) = absurd (none-some f (sym no_function ∙ found))
 
--- so is one that stands before no `(`
-pub leaf_alone : {q : Bool} {t : Kind} {ks : List Kind} {x : Expr} → atom q t ≡ Some x → BeginsNot k.Open ks → IsLongest q line.Primary (t ∷ ks) x ks
-leaf_alone found stops = leaf_whole found (λ after call. stops (call.front ++ (call.further ++ (k.Close ∷ after))) call.cut)
-
--- a token that is neither an expression nor a function nor `(` begins no primary
-pub token_none : {q : Bool} {t : Kind} {ks : List Kind} → atom q t ≡ None → function t ≡ None → (t ≡ k.Open → ⊥) → BeginsNoText q line.Primary (t ∷ ks)
-token_none no_atom no_function no_open front after tree cut text =
-    none_whole after no_atom no_open (λ call. none-some call.f (sym no_function ∙ call.is_function)) (primary_texts text) cut
-
--- nor does a function that is no expression where no `(` follows
-pub function_none : {q : Bool} {t : Kind} {f : Func} {ks : List Kind} → atom q t ≡ None → function t ≡ Some f → BeginsNot k.Open ks → BeginsNoText q line.Primary (t ∷ ks)
-function_none {t = t} {f = f} no_atom is_function stops front after tree cut text =
-    none_whole after no_atom (λ is_open. open_no_function t f is_open is_function) (λ call. stops (call.front ++ (call.further ++ (k.Close ∷ after))) call.cut) (primary_texts text) cut
-
--- an expression and `)` stand between the tokens and what is after them
-record IsInside (q : Bool) (ks after : List Kind) : Type 0 where
-  front : List Kind
-  tree : Expr
-  cut : ks ≡ front ++ (k.Close ∷ after)
-  text : In q line.Choice front tree
-
--- a primary that begins with `(` is an expression in parentheses
-open_inside : {q : Bool} {ks other : List Kind} {any : Expr} (after : List Kind) → PrimaryText q other any → k.Open ∷ ks ≡ other ++ after → IsInside q ks after
-open_inside {q = q} after (leaf_text {t = t} {x = x} is) cut = absurd (open_no_atom q t x (sym (heads cut)) is)
-open_inside after (paren_text {a = a} {x = x} inside) cut = record { front = a; tree = x; cut = tails cut ∙ append_assoc a (k.Close ∷ []) after; text = inside }
-open_inside after (call_text {t = t} {f = f} is fits text parts) cut = absurd (open_no_function t f (sym (heads cut)) is)
-
--- the longest expression between `(` and `)` is the longest primary
-pub paren_whole : {q : Bool} {ks rest : List Kind} {x : Expr} → IsLongest q line.Choice ks x (k.Close ∷ rest) → IsLongest q line.Primary (k.Open ∷ ks) (e.Paren x) rest
-paren_whole {ks = ks} {rest = rest} longest = record {
-  front = k.Open ∷ (longest.front ++ (k.Close ∷ []));
-  cut = ap (λ z. k.Open ∷ z) (longest.cut ∙ sym (append_assoc longest.front (k.Close ∷ []) rest));
-  text = paren longest.text;
-  longest = λ other after any cut text.
-      let inside = open_inside after (primary_texts text) cut in
-      omega (arith, ap length (closed longest inside.cut inside.text refl).0);
+-- a token that is an expression by itself
+pub leaf_found : {labels : Labels} {ts us : List Kind} {x : Expr} (t : Kind) → ts ≡ t ∷ us → atom labels t ≡ Some x → function t ≡ None → Found (Derives labels rule.Primary) ts x us (length us)
+leaf_found {labels = labels} {us = us} {x = x} t is is_atom no_function = record {
+  front = t ∷ [];
+  cut = is;
+  text = leaf is_atom;
+  longest = λ g r y cut text. let p = after_text t g r y is cut text in omega (arith, ap length p.1, ap length (single is_atom no_function p.2), length-append p.0 r);
+  reach = record {
+    prefix = t ∷ [];
+    rest = us;
+    cut = is;
+    count = refl;
+    begins = whole_prefix (Derives labels rule.Primary) (t ∷ []) x (leaf is_atom);
+    furthest = λ g r cut begins. ⊎_elim (λ none. omega (arith, ap length cut, ap length none, ap length is, length-append g r))
+        (λ p. omega (arith, ap length p.3, ap length (single is_atom no_function p.4), length-append p.0 r, length-append p.0 p.1)) (after_prefix t g r is cut begins);
+  };
 }
 
--- no primary begins with `(` where no expression follows it
-pub paren_none : {q : Bool} {ks : List Kind} → BeginsNoText q line.Choice ks → BeginsNoText q line.Primary (k.Open ∷ ks)
-paren_none none front after tree cut text =
-    let inside = open_inside after (primary_texts text) cut in
-    none inside.front (k.Close ∷ after) inside.tree inside.cut inside.text
+none_after : {labels : Labels} {t : Kind} {g : List Kind} → (t ≡ k.Open → ⊥) → atom labels t ≡ None → function t ≡ None → After labels t g → ⊥
+none_after shut no_atom no_function (alone y found none) = none-some y (sym no_atom ∙ found)
+none_after shut no_atom no_function (in_parens y shown text) = shut shown
+none_after shut no_atom no_function (of_call f xs found text) = none-some f (sym no_function ∙ found)
 
--- or where no `)` follows the longest expression
-pub paren_open : {q : Bool} {ks rest : List Kind} {x : Expr} → IsLongest q line.Choice ks x rest → BeginsNot k.Close rest → BeginsNoText q line.Primary (k.Open ∷ ks)
-paren_open longest stops front after tree cut text =
-    let inside = open_inside after (primary_texts text) cut in
-    stops after (closed longest inside.cut inside.text refl).0
+-- a token that begins no primary
+pub leaf_missing : {labels : Labels} {ts us : List Kind} (t : Kind) → ts ≡ t ∷ us → (t ≡ k.Open → ⊥) → atom labels t ≡ None → function t ≡ None → Missing (Derives labels rule.Primary) ts (length ts)
+leaf_missing {labels = labels} t is shut no_atom no_function = record {
+  none = λ g r y cut text. let p = after_text t g r y is cut text in none_after shut no_atom no_function p.2;
+  reach = reach_nil (derives_nothing labels rule.Primary)
+      (λ g r cut begins. ⊎_elim (λ none. none) (λ p. absurd (none_after shut no_atom no_function p.4)) (after_prefix t g r is cut begins));
+}
+
+-- no tokens
+pub nothing_missing : {labels : Labels} (ts : List Kind) → length ts ≡ 0 → Missing (Derives labels rule.Primary) ts (length ts)
+nothing_missing {labels = labels} (t ∷ ts) none = absurd (omega (arith, none))
+nothing_missing {labels = labels} [] none = record {
+  none = λ g r y cut text. some_token (primary_texts text) (empty g r cut);
+  reach = reach_nil (derives_nothing labels rule.Primary) (λ g r cut begins. empty g r cut);
+}
+  where
+    empty : (g r : List Kind) → [] ≡ g ++ r → g ≡ []
+    empty [] r cut = refl
+    empty (t ∷ g) r cut = cc

@@ -1,3 +1,4 @@
+pub mod Begins
+pub mod Longest
 pub mod Follow
-pub mod Answers
-pub mod Fronts
+pub mod Parts

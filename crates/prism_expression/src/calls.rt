@@ -1,76 +1,95 @@
 ghost use Rattle.std.specs.Prelude.{◌+◌, ◌<◌, ◌^◌, ◌≡◌, true, length, MatchOption};
-ghost use Rattle.prism_syntax.specs.Lines.{may_take};
-ghost use Rattle.prism_expression.specs.Answers.{Gives, Reads};
-ghost use Rattle.prism_expression.specs.Fronts.{ReadsNoCall, ReadsParts, ReadsNoParts, Passes, Lacks};
+ghost use Rattle.prism_syntax.specs.Precedence.{takes};
+ghost use Rattle.prism_reading.specs.Reading.{Answers, Anything, Parses, Fails};
+ghost use Rattle.prism_expression.specs.Parts.{IsArguments, IsCalled, BeginsWith, BeginsWithout};
 
-use crate::answers::Unread;
-use crate::marks::{past_close, past_comma, past_open};
-use crate::reading::read;
+use crate::parsing::parse_longest;
 use crate::trees::preceded;
-use prism_syntax::{Expr, Func, Kind, Line, Token, function, may_take, takes};
+use prism_reading::{Mismatch, accept};
+use prism_syntax::{Expr, Func, Kind, Labels, Precedence, Token, takes};
 use sqlite_items::Items;
 use std::alloc::Global;
 
-/// `read` at a primary that is a call of a function.
+/// The arguments of a call, from its `(` on, and the tokens after its `)`.
 #[cycle(grammar)]
 pub fn call<'a>(
     alloc: Global,
-    quotes: bool,
-    tokens: &'a [Token],
-) -> Result<(Expr, &'a [Token], usize), Unread>
-    ensures { Gives (λ r. Reads quotes Line.Primary tokens.now r.0 r.1.now r.2) (ReadsNoCall quotes tokens.now) result }
-{
-    let Some((name, opened)) = tokens.split_first() else {
-        return Err(Unread::NoText { left: 0 });
-    };
-    let Some(function) = function(&name.kind) else {
-        return Err(Unread::NoText { left: tokens.len() });
-    };
-    let Some(inside) = past_open(opened) else {
-        return Err(Unread::NoText { left: opened.len() });
-    };
-    parts(alloc, quotes, function, inside)
-}
-
-/// The parts of a call, from the token after its `(` on.
-#[cycle(grammar)]
-fn parts<'a>(
-    alloc: Global,
-    quotes: bool,
+    labels: Labels,
     function: Func,
     tokens: &'a [Token],
-) -> Result<(Expr, &'a [Token], usize), Unread>
-    ensures { Gives (λ r. ReadsParts quotes function tokens.now r.0 r.1.now r.2) (ReadsNoParts quotes function tokens.now) result }
+) -> Result<(Items<Expr>, &'a [Token]), Mismatch>
+    ensures { Answers
+        (λ r. Parses (IsCalled labels function) Anything tokens.now r.0 r.1.now (length r.1.now))
+        (Fails (IsCalled labels function) Anything tokens.now)
+        result }
 {
-    let (first, mut rest, mut left) = read(alloc, quotes, Line::Choice, tokens)?;
-    let mut more = Items::new(alloc);
-    while let Some(after) = past_further(function, more.len(), rest) {
-        let (part, next, place) = read(alloc, quotes, Line::Choice, after)?;
-        more.push(part)?;
-        rest = next;
-        left = place;
+    match accept(tokens, &Kind::Open) {
+        Some(opened) => arguments(alloc, labels, function, opened),
+        None => Err(Mismatch::NoText { left: tokens.len() }),
     }
-    let Some(after) = past_close(rest) else {
-        return Err(Unread::NoText { left });
-    };
-    if !takes(function, more.len()) {
-        return Err(Unread::NoText { left });
-    }
-    let tree = Expr::Call(function, preceded(alloc, first, more)?);
-    Ok((tree, after, after.len()))
 }
 
-/// The tokens after a first comma, where the function may take more parts than so many after its first.
-fn past_further(function: Func, more: usize, tokens: &[Token]) -> Option<&[Token]>
+/// The arguments of a call, from the token after its `(` on, and the tokens after its `)`.
+#[cycle(grammar)]
+fn arguments<'a>(
+    alloc: Global,
+    labels: Labels,
+    function: Func,
+    tokens: &'a [Token],
+) -> Result<(Items<Expr>, &'a [Token]), Mismatch>
+    ensures { Answers
+        (λ r. Parses (IsArguments labels function) Anything tokens.now r.0 r.1.now (length r.1.now))
+        (Fails (IsArguments labels function) Anything tokens.now)
+        result }
+{
+    let first = parse_longest(alloc, labels, Precedence::Conditional, tokens)?;
+    let mut rest = first.rest;
+    let mut left = first.left;
+    let mut more = Items::new(alloc);
+    while let Some(after) = accept_comma(function, more.len(), rest) {
+        match parse_longest(alloc, labels, Precedence::Conditional, after) {
+            Ok(argument) => {
+                more.push(argument.tree)?;
+                rest = argument.rest;
+                left = left.min(argument.left);
+            }
+            Err(Mismatch::NoText { left: wrong }) => {
+                return Err(Mismatch::NoText {
+                    left: left.min(wrong),
+                });
+            }
+            Err(Mismatch::OutOfMemory(fault)) => return Err(Mismatch::OutOfMemory(fault)),
+        }
+    }
+    match accept_close(function, more.len(), rest) {
+        Some(after) => Ok((preceded(alloc, first.tree, more)?, after)),
+        None => Err(Mismatch::NoText { left }),
+    }
+}
+
+/// The tokens after a first comma, where the function may take more arguments than so many after its first.
+fn accept_comma(function: Func, more: usize, tokens: &[Token]) -> Option<&[Token]>
     requires { more + length tokens.now < 2 ^ 64 }
     ensures { MatchOption result
-        (Lacks (λ t. (t ≡ Kind.Comma) × (may_take function (more + 1) ≡ true)) tokens.now)
-        (λ after. Passes (λ t. (t ≡ Kind.Comma) × (may_take function (more + 1) ≡ true)) tokens.now after.now) }
+        (BeginsWithout (λ t. (t ≡ Kind.Comma) × (takes function (more + 1) ≡ true)) tokens.now)
+        (λ after. BeginsWith (λ t. (t ≡ Kind.Comma) × (takes function (more + 1) ≡ true)) tokens.now after.now) }
 {
-    let after = past_comma(tokens)?;
-    if may_take(function, more + 1) {
-        Some(after)
-    } else {
-        None
+    let (first, after) = tokens.split_first()?;
+    match first.kind {
+        Kind::Comma if takes(function, more + 1) => Some(after),
+        _ => None,
+    }
+}
+
+/// The tokens after a first `)`, where the function takes so many arguments after its first.
+fn accept_close(function: Func, more: usize, tokens: &[Token]) -> Option<&[Token]>
+    ensures { MatchOption result
+        (BeginsWithout (λ t. (t ≡ Kind.Close) × (takes function more ≡ true)) tokens.now)
+        (λ after. BeginsWith (λ t. (t ≡ Kind.Close) × (takes function more ≡ true)) tokens.now after.now) }
+{
+    let (first, after) = tokens.split_first()?;
+    match first.kind {
+        Kind::Close if takes(function, more) => Some(after),
+        _ => None,
     }
 }

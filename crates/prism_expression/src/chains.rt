@@ -1,62 +1,70 @@
 ghost use Rattle.std.specs.Prelude.{◌≡◌, true, Some, IfOk, IsSome, MatchOption};
-ghost use Rattle.prism_syntax.specs.Lines.{is_chain, operator};
-ghost use Rattle.prism_syntax.specs.Expressions.{level};
-ghost use Rattle.prism_expression.specs.Answers.{Gives, Reads, ReadsNone};
-ghost use Rattle.prism_expression.specs.Fronts.{Passes, Lacks};
+ghost use Rattle.prism_syntax.specs.Precedence.{is_chain, operator};
+ghost use Rattle.prism_syntax.specs.Expressions.{Derives, level};
+ghost use Rattle.prism_reading.specs.Reading.{Answers, Anything, Fails};
+ghost use Rattle.prism_expression.specs.Longest.{ParsesLongest};
+ghost use Rattle.prism_expression.specs.Parts.{BeginsWith, BeginsWithout};
 
-use crate::answers::Unread;
-use crate::reading::read;
+use crate::longest::Longest;
+use crate::parsing::parse_longest;
 use crate::trees::preceded;
-use prism_syntax::{Expr, Line, Op, Token};
+use prism_reading::Mismatch;
+use prism_syntax::{Expr, Labels, Op, Precedence, Token};
 use sqlite_items::Items;
 use std::alloc::{AllocError, Global};
 
-/// `read` at a line of operands with operators between them.
+/// `parse_longest` at a level of operands with operators between them.
 #[cycle(grammar)]
 pub fn chain<'a>(
     alloc: Global,
-    quotes: bool,
-    line: Line,
+    labels: Labels,
+    level: Precedence,
     tokens: &'a [Token],
-) -> Result<(Expr, &'a [Token], usize), Unread>
-    requires { is_chain line ≡ true }
-    ensures { Gives (λ r. Reads quotes line tokens.now r.0 r.1.now r.2) (ReadsNone quotes line tokens.now) result }
+) -> Result<Longest<'a>, Mismatch>
+    requires { is_chain level ≡ true }
+    ensures { Answers
+        (λ r. ParsesLongest labels level tokens.now r.tree r.rest.now r.left)
+        (Fails (Derives labels level) Anything tokens.now)
+        result }
 {
-    let (first, mut rest, mut left) = read(alloc, quotes, line.inner(), tokens)?;
+    let first = parse_longest(alloc, labels, level.inner(), tokens)?;
+    let mut rest = first.rest;
+    let mut left = first.left;
     let mut operands = Items::new(alloc);
     let mut operators = Items::new(alloc);
-    while let Some((operator, after)) = past_operator(line, rest) {
-        match read(alloc, quotes, line.inner(), after) {
-            Ok((operand, next, place)) => {
-                operands.push(operand)?;
+    while let Some((operator, after)) = accept_operator(level, rest) {
+        match parse_longest(alloc, labels, level.inner(), after) {
+            Ok(operand) => {
+                operands.push(operand.tree)?;
                 operators.push(operator)?;
-                rest = next;
-                left = place;
+                rest = operand.rest;
+                left = left.min(operand.left);
             }
-            Err(Unread::NoText { left: place }) => {
-                let tree = level(alloc, first, operands, operators)?;
-                return Ok((tree, rest, place));
+            Err(Mismatch::NoText { left: wrong }) => {
+                let tree = chained(alloc, first.tree, operands, operators)?;
+                let left = left.min(wrong);
+                return Ok(Longest { tree, rest, left });
             }
-            Err(Unread::OutOfMemory(fault)) => return Err(Unread::OutOfMemory(fault)),
+            Err(Mismatch::OutOfMemory(fault)) => return Err(Mismatch::OutOfMemory(fault)),
         }
     }
-    let tree = level(alloc, first, operands, operators)?;
-    Ok((tree, rest, left))
+    let tree = chained(alloc, first.tree, operands, operators)?;
+    Ok(Longest { tree, rest, left })
 }
 
-/// The operator of the line with which the tokens begin, and the tokens after it.
-fn past_operator(line: Line, tokens: &[Token]) -> Option<(Op, &[Token])>
+/// The operator of the level that the first token stands for, and the tokens after it.
+fn accept_operator(level: Precedence, tokens: &[Token]) -> Option<(Op, &[Token])>
     ensures { MatchOption result
-        (Lacks (λ t. IsSome (operator line t)) tokens.now)
-        (λ r. Passes (λ t. operator line t ≡ Some r.0) tokens.now r.1.now) }
+        (BeginsWithout (λ t. IsSome (operator level t)) tokens.now)
+        (λ r. BeginsWith (λ t. operator level t ≡ Some r.0) tokens.now r.1.now) }
 {
     let (first, after) = tokens.split_first()?;
-    let operator = line.operator(&first.kind)?;
+    let operator = level.operator(&first.kind)?;
     Some((operator, after))
 }
 
 /// The tree of a chain.
-fn level(
+fn chained(
     alloc: Global,
     first: Expr,
     operands: Items<Expr>,

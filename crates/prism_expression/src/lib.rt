@@ -1,20 +1,19 @@
-//! Reads expressions: the longest text of a line of their grammar, with its tree.
+//! Parses expressions: the longest text of a level of their grammar, with its tree, or a text up to a token that ends it.
 #![tactic(auto)]
 
-mod answers;
 mod calls;
 mod chains;
 mod conditionals;
 mod laws;
-mod marks;
+mod longest;
+mod parsing;
 mod primaries;
-mod reading;
 mod signs;
 mod trees;
 
-pub use answers::Unread;
-pub use laws::one_tree;
-pub use reading::read;
+pub use laws::{begins_exactly, one_tree};
+pub use longest::Longest;
+pub use parsing::{expression_until, parse_longest};
 
 #[cfg(test)]
 mod tests;

@@ -1,62 +1,73 @@
 ghost use Rattle.std.specs.Prelude.{◌≡◌, IfOk};
-ghost use Rattle.prism_syntax.specs.Lines.{atom};
-ghost use Rattle.prism_expression.specs.Answers.{Gives, Reads, ReadsNone};
-ghost use Rattle.prism_expression.specs.Fronts.{ReadsInside, ReadsNoInside};
+ghost use Rattle.prism_syntax.specs.Precedence.{atom};
+ghost use Rattle.prism_syntax.specs.Expressions.{Derives};
+ghost use Rattle.prism_reading.specs.Reading.{Answers, Anything, Fails};
+ghost use Rattle.prism_expression.specs.Longest.{ParsesLongest};
 
-use crate::answers::Unread;
 use crate::calls::call;
-use crate::marks::{past_close, past_open};
-use crate::reading::read;
-use prism_syntax::{Expr, Kind, Line, Token};
+use crate::longest::Longest;
+use crate::parsing::expression_until;
+use prism_reading::{Mismatch, accept};
+use prism_syntax::{Expr, Kind, Labels, Precedence, Token, function};
 use sqlite_items::Boxed;
 use std::alloc::{AllocError, Global};
 
-/// `read` at the line of primaries.
+/// `parse_longest` at the level of primaries.
 #[cycle(grammar)]
 pub fn primary<'a>(
     alloc: Global,
-    quotes: bool,
+    labels: Labels,
     tokens: &'a [Token],
-) -> Result<(Expr, &'a [Token], usize), Unread>
-    ensures { Gives (λ r. Reads quotes Line.Primary tokens.now r.0 r.1.now r.2) (ReadsNone quotes Line.Primary tokens.now) result }
+) -> Result<Longest<'a>, Mismatch>
+    ensures { Answers
+        (λ r. ParsesLongest labels Precedence.Primary tokens.now r.tree r.rest.now r.left)
+        (Fails (Derives labels Precedence.Primary) Anything tokens.now)
+        result }
 {
-    if let Some(inside) = past_open(tokens) {
-        return paren(alloc, quotes, inside);
+    if let Some(inside) = accept(tokens, &Kind::Open) {
+        let (tree, rest) = expression_until(
+            alloc,
+            labels,
+            Precedence::Conditional,
+            inside,
+            &Kind::Close,
+        )?;
+        return Ok(Longest {
+            tree: Expr::Paren(Boxed::new(alloc, tree)?),
+            rest,
+            left: rest.len(),
+        });
     }
     let Some((first, rest)) = tokens.split_first() else {
-        return Err(Unread::NoText { left: 0 });
+        return Err(Mismatch::NoText { left: tokens.len() });
     };
-    let alone = atom(alloc, quotes, &first.kind)?;
-    match call(alloc, quotes, tokens) {
-        Ok((tree, after, left)) => Ok((tree, after, left)),
-        Err(Unread::NoText { left }) => match alone {
-            Some(tree) => Ok((tree, rest, left.min(rest.len()))),
-            None => Err(Unread::NoText { left }),
+    let Some(function) = function(&first.kind) else {
+        return match atom(alloc, labels, &first.kind)? {
+            Some(tree) => Ok(Longest {
+                tree,
+                rest,
+                left: rest.len(),
+            }),
+            None => Err(Mismatch::NoText { left: tokens.len() }),
+        };
+    };
+    match call(alloc, labels, function, rest) {
+        Ok((parts, after)) => Ok(Longest {
+            tree: Expr::Call(function, parts),
+            rest: after,
+            left: after.len(),
+        }),
+        Err(Mismatch::NoText { left }) => match atom(alloc, labels, &first.kind)? {
+            Some(tree) => Ok(Longest { tree, rest, left }),
+            None => Err(Mismatch::NoText { left }),
         },
-        Err(Unread::OutOfMemory(fault)) => Err(Unread::OutOfMemory(fault)),
+        Err(Mismatch::OutOfMemory(fault)) => Err(Mismatch::OutOfMemory(fault)),
     }
-}
-
-/// An expression in parentheses, from the token after its `(` on.
-#[cycle(grammar)]
-fn paren<'a>(
-    alloc: Global,
-    quotes: bool,
-    tokens: &'a [Token],
-) -> Result<(Expr, &'a [Token], usize), Unread>
-    ensures { Gives (λ r. ReadsInside quotes tokens.now r.0 r.1.now r.2) (ReadsNoInside quotes tokens.now) result }
-{
-    let (inner, rest, left) = read(alloc, quotes, Line::Choice, tokens)?;
-    let Some(after) = past_close(rest) else {
-        return Err(Unread::NoText { left });
-    };
-    let tree = Expr::Paren(Boxed::new(alloc, inner)?);
-    Ok((tree, after, after.len()))
 }
 
 /// The expression that a token is by itself.
-fn atom(alloc: Global, quotes: bool, kind: &Kind) -> Result<Option<Expr>, AllocError>
-    ensures { IfOk result (λ tree. tree ≡ atom quotes kind.now) }
+fn atom(alloc: Global, labels: Labels, kind: &Kind) -> Result<Option<Expr>, AllocError>
+    ensures { IfOk result (λ tree. tree ≡ atom labels kind.now) }
 {
     match kind {
         Kind::Whole(value) => Ok(Some(Expr::Whole(*value))),
@@ -64,7 +75,10 @@ fn atom(alloc: Global, quotes: bool, kind: &Kind) -> Result<Option<Expr>, AllocE
         Kind::True => Ok(Some(Expr::Truth(true))),
         Kind::False => Ok(Some(Expr::Truth(false))),
         Kind::Name(text) => Ok(Some(Expr::Name(text.copy(alloc)?))),
-        Kind::Quoted(text) if quotes => Ok(Some(Expr::Quoted(text.copy(alloc)?))),
+        Kind::Quoted(text) => match labels {
+            Labels::Allowed => Ok(Some(Expr::Quoted(text.copy(alloc)?))),
+            Labels::Refused => Ok(None),
+        },
         _ => Ok(None),
     }
 }

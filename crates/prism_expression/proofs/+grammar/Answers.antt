@@ -1,128 +1,154 @@
 -- Each answer of a function is put together from those of the functions that it calls.
-use Rattle.std.proofs.Common.{sym, ◌∙◌, subst, arith}
-use Rattle.prism_expression.proofs.AnswerLemmas.{gives_more, raised, told_left}
-use Rattle.prism_expression.proofs.SignLemmas.{signed_read, signed_unread}
-use Rattle.prism_expression.proofs.LoopLemmas.{links_begin, links_add, links_end, links_stop, links_lack, parts_begin, parts_add, parts_cut_off, parts_end_open, parts_end_unfit, parts_end_whole}
-use Rattle.prism_expression.proofs.BranchLemmas.{no_query, no_first, no_colon, no_second, both_branches, conditional_whole}
-use Rattle.prism_expression.proofs.AtomLemmas.{inside_open, inside_whole, paren_read, paren_unread, call_unopened, call_read, call_unread, alone_read, alone_unread}
-use Rattle.prism_expression.specs.Answers.{Reads, ReadsNone}
-use Rattle.prism_expression.specs.Fronts.{ReadsParts, ReadsNoCall, ReadsBranches}
-use Rattle.prism_syntax.specs.declared.lines.Line.TheVariants as line
+use Rattle.std.proofs.Common.{◌≡◌, ◌∷◌, List, Some, None, refl, sym, ap, ◌∙◌, subst, arith}
+use Rattle.prism_syntax.specs.declared.tokens.Kind.{Kind}
+use Rattle.prism_syntax.specs.declared.tokens.Kind.TheVariants as k
+use Rattle.prism_syntax.specs.declared.precedence.Precedence.TheVariants as rule
+use Rattle.prism_syntax.specs.Tokens.{kinds}
+use Rattle.prism_syntax.specs.Expressions.{Derives}
+use Rattle.prism_reading.specs.Reading.{Anything, Parses, Fails}
+use Rattle.prism_reading.specs.Sequences.{Ended}
+use Rattle.prism_expression.specs.Longest.{IsLongest}
+use Rattle.prism_expression.specs.Parts.{IsBranches, IsArguments, IsCalled}
+use Rattle.prism_expression.proofs.SignLemmas.{signed_found, signed_missing}
+use Rattle.prism_expression.proofs.AnswerLemmas.{raised, told_left, answers_more, chain_fails, chain_begins, chain_goes_on, chain_ends, chain_stops, until_fails, until_unended, until_ended, branches_unasked, branches_no_first, branches_no_second, branches_whole, conditional_fails, conditional_whole, conditional_alone, arguments_fail, arguments_begin, arguments_go_on, arguments_stop, arguments_unclosed, arguments_close, called_unopened, called_parses, called_fails, paren_fails, paren_whole, primary_nothing, leaf_whole, leaf_fails, call_whole, name_whole, word_fails}
 use Rattle.prism_expression.proofs.+grammar.Goals as goal
 
 -- ---- chains
 
 pub chains::chain-returns-in_err-first : goal.chains::chain-returns-in_err-first
 chains::chain-returns-in_err-first t c =
-    raised (λ r. Reads c.args.quotes c.args.line c.args.tokens.now r.0 r.1.now r.2) (ReadsNone c.args.quotes c.inner.result c.args.tokens.now)
-    c.from_residual.result c.in_err-first.field-0.0 c.from_residual.ensures.1 (links_lack c.requires c.inner.ensures) c.in_err-first.ensures
+    raised (λ r. IsLongest (Derives c.args.labels c.args.level) c.args.tokens.now r.tree r.rest.now r.left) (Fails (Derives c.args.labels c.inner.result) Anything c.args.tokens.now)
+    c.from_residual.result c.in_err-first.field-0.0 c.from_residual.ensures.1 (chain_fails c.requires c.inner.ensures) c.in_err-first.ensures
 
 pub chains::chain-loop-operator-init : goal.chains::chain-loop-operator-init
-chains::chain-loop-operator-init t c = links_begin c.requires c.inner.ensures c.new-operands.ensures c.new-operators.ensures c.in_ok-first.ensures
+chains::chain-loop-operator-init t c = chain_begins c.requires c.inner.ensures c.new-operands.ensures c.new-operators.ensures c.in_ok-first.ensures
 
 pub chains::chain-loop-operator-preserved : goal.chains::chain-loop-operator-preserved
 chains::chain-loop-operator-preserved t c =
-    links_add c.inner-in-Some.ensures c.in_ok-push-in-Ok.ensures.ok c.in_ok-push-in-Ok-2.ensures.ok c.loop-operator.invariant c.in-Some.ensures c.in-Ok.ensures
+    chain_goes_on c.requires c.inner-in-Some.ensures c.in_ok-push-in-Ok.ensures.ok c.in_ok-push-in-Ok-2.ensures.ok c.min-left.ensures c.loop-operator.invariant c.in-Some.ensures c.in-Ok.ensures
 
 pub chains::chain-returns-in-Err-NoText : goal.chains::chain-returns-in-Err-NoText
 chains::chain-returns-in-Err-NoText t c =
-    let none : ReadsNone c.args.quotes c.inner-in-Some.result c.in-Some.after.now c.in-Err-NoText.place =
-    told_left (ReadsNone c.args.quotes c.inner-in-Some.result c.in-Some.after.now) c.in-Err-NoText.field-0 c.in-Err-NoText.place c.in-Err-NoText.field-0-is c.in-Err-NoText.ensures in
-    subst (λ n. Reads c.args.quotes c.args.line c.args.tokens.now c.in_ok-tree-in-Err-NoText.tree c.loop-operator.rest.now n) (sym c.in-Err-NoText.place-is)
-    (links_stop c.requires c.inner-in-Some.ensures c.in_ok-tree-in-Err-NoText.ensures c.loop-operator.invariant c.in-Some.ensures none)
+    chain_stops c.requires c.inner-in-Some.ensures c.in_ok-tree-in-Err-NoText.ensures (cc (c.min-left-in-Err-NoText.ensures, c.in-Err-NoText.wrong-is)) c.loop-operator.invariant c.in-Some.ensures
+    (told_left (Fails (Derives c.args.labels c.inner-in-Some.result) Anything c.in-Some.after.now) c.in-Err-NoText.field-0 c.in-Err-NoText.wrong c.in-Err-NoText.field-0-is c.in-Err-NoText.ensures)
 
 pub chains::chain-returns : goal.chains::chain-returns
-chains::chain-returns t c = links_end c.loop-operator.rest.now c.requires c.in_ok-tree.ensures c.loop-operator.invariant c.in_default.ensures
+chains::chain-returns t c = chain_ends c.requires c.in_ok-tree.ensures c.loop-operator.invariant c.in_default.ensures
 
 -- ---- signs
 
 pub signs::signed-returns-in_err-operand : goal.signs::signed-returns-in_err-operand
 signs::signed-returns-in_err-operand t c =
-    raised (λ r. Reads c.args.quotes c.args.line c.args.tokens.now r.0 r.1.now r.2) (ReadsNone c.args.quotes c.inner.result c.past_signs-signs.result.1.now)
-    c.from_residual.result c.in_err-operand.field-0.0 c.from_residual.ensures.1 (signed_unread c.requires c.inner.ensures c.past_signs-signs.ensures) c.in_err-operand.ensures
+    raised (λ r. IsLongest (Derives c.args.labels c.args.level) c.args.tokens.now r.tree r.rest.now r.left) (Fails (Derives c.args.labels c.inner.result) Anything c.accept_signs-signs.result.1.now)
+    c.from_residual.result c.in_err-operand.field-0.0 c.from_residual.ensures.1 (signed_missing c.requires c.inner.ensures c.accept_signs-signs.ensures) c.in_err-operand.ensures
 
 pub signs::signed-returns : goal.signs::signed-returns
-signs::signed-returns t c = signed_read c.requires c.inner.ensures c.in_ok-tree.ensures c.past_signs-signs.ensures c.in_ok-operand.ensures
+signs::signed-returns t c = signed_found c.requires c.inner.ensures c.in_ok-tree.ensures c.accept_signs-signs.ensures c.in_ok-operand.ensures
 
 -- ---- conditionals
 
 pub conditionals::branches-returns-in_default : goal.conditionals::branches-returns-in_default
-conditionals::branches-returns-in_default t c = no_query c.args.tokens.now c.in_default.ensures
+conditionals::branches-returns-in_default t c = branches_unasked c.args.tokens.now c.in_default.ensures
 
-pub conditionals::branches-returns-in_err-first : goal.conditionals::branches-returns-in_err-first
-conditionals::branches-returns-in_err-first t c =
-    raised (λ r. ReadsBranches c.args.quotes c.args.tokens.now r.0 r.1.now r.2) (ReadsNone c.args.quotes line.Implication c.in-Some.inside.now)
-    c.from_residual.result c.in_err-first.field-0.0 c.from_residual.ensures.1 (no_first c.in-Some.ensures) c.in_err-first.ensures
+pub conditionals::branches-returns-in_err-then : goal.conditionals::branches-returns-in_err-then
+conditionals::branches-returns-in_err-then t c =
+    raised (λ r. IsLongest (IsBranches c.args.labels) c.args.tokens.now (r.then, r.other) r.rest.now r.left) (Fails (Ended (Derives c.args.labels rule.Implication) k.Colon) Anything c.in-Some.inside.now)
+    c.from_residual.result c.in_err-then.field-0.0 c.from_residual.ensures.1 (branches_no_first c.in-Some.ensures) c.in_err-then.ensures
 
-pub conditionals::branches-returns-in_default-past_colon : goal.conditionals::branches-returns-in_default-past_colon
-conditionals::branches-returns-in_default-past_colon t c = no_colon c.in-Some.ensures c.in_ok-first.ensures c.in_default-past_colon.ensures
-
-pub conditionals::branches-returns-in_err-second : goal.conditionals::branches-returns-in_err-second
-conditionals::branches-returns-in_err-second t c =
-    raised (λ r. ReadsBranches c.args.quotes c.args.tokens.now r.0 r.1.now r.2) (ReadsNone c.args.quotes line.Choice c.in-Some-past_colon.outside.now)
-    c.from_residual-in_err-second.result c.in_err-second.field-0.0 c.from_residual-in_err-second.ensures.1
-    (no_second c.in-Some.ensures c.in_ok-first.ensures c.in-Some-past_colon.ensures) c.in_err-second.ensures
+pub conditionals::branches-returns-in_err-other : goal.conditionals::branches-returns-in_err-other
+conditionals::branches-returns-in_err-other t c =
+    raised (λ r. IsLongest (IsBranches c.args.labels) c.args.tokens.now (r.then, r.other) r.rest.now r.left) (Fails (Derives c.args.labels rule.Conditional) Anything c.in_ok-then.outside.now)
+    c.from_residual-in_err-other.result c.in_err-other.field-0.0 c.from_residual-in_err-other.ensures.1 (branches_no_second c.in-Some.ensures c.in_ok-then.ensures) c.in_err-other.ensures
 
 pub conditionals::branches-returns : goal.conditionals::branches-returns
-conditionals::branches-returns t c = both_branches c.in-Some.ensures c.in_ok-first.ensures c.in-Some-past_colon.ensures c.in_ok-second.ensures
+conditionals::branches-returns t c = branches_whole c.in-Some.ensures c.in_ok-then.ensures c.in_ok-other.ensures
 
-pub conditionals::choice-returns-in_ok-tree-in-Ok : goal.conditionals::choice-returns-in_ok-tree-in-Ok
-conditionals::choice-returns-in_ok-tree-in-Ok t c = conditional_whole c.in_ok-tree-in-Ok.ensures c.in_ok-condition.ensures c.in-Ok.ensures (omega arith)
+pub conditionals::conditional-returns-in_err-condition : goal.conditionals::conditional-returns-in_err-condition
+conditionals::conditional-returns-in_err-condition t c =
+    raised (λ r. IsLongest (Derives c.args.labels rule.Conditional) c.args.tokens.now r.tree r.rest.now r.left) (Fails (Derives c.args.labels rule.Implication) Anything c.args.tokens.now)
+    c.from_residual.result c.in_err-condition.field-0.0 c.from_residual.ensures.1 conditional_fails c.in_err-condition.ensures
 
--- ---- primaries
+pub conditionals::conditional-returns-in-Ok : goal.conditionals::conditional-returns-in-Ok
+conditionals::conditional-returns-in-Ok t c = conditional_whole c.in_ok-chosen-in-Ok.ensures c.min.ensures c.in_ok-condition.ensures c.in-Ok.ensures
 
-pub primaries::paren-returns-in_default : goal.primaries::paren-returns-in_default
-primaries::paren-returns-in_default t c = inside_open c.in_ok-inner.rest.now c.in_ok-inner.ensures c.in_default.ensures
+pub conditionals::conditional-returns-in-Err-NoText : goal.conditionals::conditional-returns-in-Err-NoText
+conditionals::conditional-returns-in-Err-NoText t c =
+    conditional_alone (cc (c.min-in-Err-NoText.ensures, c.in-Err-NoText.left-is)) c.in_ok-condition.ensures
+    (told_left (Fails (IsBranches c.args.labels) Anything c.in_ok-condition.condition.rest.now) c.in-Err-NoText.field-0 c.in-Err-NoText.left c.in-Err-NoText.field-0-is c.in-Err-NoText.ensures)
 
-pub primaries::paren-returns : goal.primaries::paren-returns
-primaries::paren-returns t c = inside_whole c.in_ok-new.ensures c.in_ok-inner.ensures c.in-Some.ensures
+-- ---- a text up to a token
 
-pub primaries::primary-returns-in-Some : goal.primaries::primary-returns-in-Some
-primaries::primary-returns-in-Some t c = gives_more c.paren.result (λ value read. paren_read c.in-Some.ensures read) (paren_unread c.in-Some.ensures) c.paren.ensures
+pub parsing::expression_until-returns-in_err-longest : goal.parsing::expression_until-returns-in_err-longest
+parsing::expression_until-returns-in_err-longest t c =
+    raised (λ r. Parses (Ended (Derives c.args.labels c.args.level) c.args.end.now) Anything c.args.tokens.now r.0 r.1.now _) (Fails (Derives c.args.labels c.args.level) Anything c.args.tokens.now)
+    c.from_residual.result c.in_err-longest.field-0.0 c.from_residual.ensures.1 until_fails c.in_err-longest.ensures
 
-pub primaries::primary-returns-in-Some-alone : goal.primaries::primary-returns-in-Some-alone
-primaries::primary-returns-in-Some-alone t c =
-    let none : ReadsNoCall c.args.quotes c.args.tokens.now c.in-Err-NoText.left =
-    told_left (ReadsNoCall c.args.quotes c.args.tokens.now) c.in-Err-NoText.field-0 c.in-Err-NoText.left c.in-Err-NoText.field-0-is c.in-Err-NoText.ensures in
-    alone_read c.in-Some-split_first.first.now _ c.in-Some-split_first.ensures.cases.0 none (sym c.in_ok-alone.ensures ∙ c.in-Some-alone.is) (omega arith)
+pub parsing::expression_until-returns-in-Some : goal.parsing::expression_until-returns-in-Some
+parsing::expression_until-returns-in-Some t c = until_ended c.requires c.in_ok-longest.ensures c.in-Some.ensures
 
-pub primaries::primary-returns-in-None : goal.primaries::primary-returns-in-None
-primaries::primary-returns-in-None t c =
-    let none : ReadsNoCall c.args.quotes c.args.tokens.now c.in-Err-NoText.left =
-    told_left (ReadsNoCall c.args.quotes c.args.tokens.now) c.in-Err-NoText.field-0 c.in-Err-NoText.left c.in-Err-NoText.field-0-is c.in-Err-NoText.ensures in
-    alone_unread c.in-Some-split_first.first.now c.in-Some-split_first.ensures.cases.0 none (sym c.in_ok-alone.ensures ∙ c.in-None.is) c.in_default.ensures
+pub parsing::expression_until-returns : goal.parsing::expression_until-returns
+parsing::expression_until-returns t c = until_unended c.requires c.in_ok-longest.ensures c.in-None.ensures
 
 -- ---- calls
 
-pub calls::call-returns-in_default-past_open : goal.calls::call-returns-in_default-past_open
-calls::call-returns-in_default-past_open t c = call_unopened c.in-Some.name.now c.in-Some.opened.now c.in-Some.ensures.cases.0 c.in_default-past_open.ensures
+pub calls::arguments-returns-in_err-first : goal.calls::arguments-returns-in_err-first
+calls::arguments-returns-in_err-first t c =
+    raised (λ r. Parses (IsArguments c.args.labels c.args.function) Anything c.args.tokens.now r.0 r.1.now _) (Fails (Derives c.args.labels rule.Conditional) Anything c.args.tokens.now)
+    c.from_residual.result c.in_err-first.field-0.0 c.from_residual.ensures.1 arguments_fail c.in_err-first.ensures
 
-pub calls::call-returns : goal.calls::call-returns
-calls::call-returns t c =
-    gives_more c.parts.result
-    (λ value read. call_read c.in-Some.name.now c.in-Some.opened.now c.in-Some.ensures.cases.0 (sym c.in-Some-function.ensures) c.in-Some-past_open.ensures read)
-    (call_unread c.in-Some.name.now c.in-Some.opened.now c.in-Some.ensures.cases.0 (sym c.in-Some-function.ensures) c.in-Some-past_open.ensures) c.parts.ensures
+pub calls::arguments-loop-after-init : goal.calls::arguments-loop-after-init
+calls::arguments-loop-after-init t c = arguments_begin c.args.function c.new-more.ensures c.in_ok-first.ensures
 
-pub calls::parts-loop-after-init : goal.calls::parts-loop-after-init
-calls::parts-loop-after-init t c = parts_begin c.new-more.ensures c.in_ok-first.ensures
+pub calls::arguments-loop-after-preserved : goal.calls::arguments-loop-after-preserved
+calls::arguments-loop-after-preserved t c = arguments_go_on c.len.ensures c.in_ok-push-in-Ok.ensures.ok c.min-left.ensures c.loop-after.invariant c.in-Some.ensures c.in-Ok.ensures
 
-pub calls::parts-returns-in_err-part : goal.calls::parts-returns-in_err-part
-calls::parts-returns-in_err-part t c =
-    raised (λ r. ReadsParts c.args.quotes c.args.function c.args.tokens.now r.0 r.1.now r.2) (ReadsNone c.args.quotes line.Choice c.in-Some.after.now)
-    c.from_residual-in_err-part.result c.in_err-part.field-0.0 c.from_residual-in_err-part.ensures.1
-    (parts_cut_off c.len.result c.loop-after.invariant c.in-Some.ensures) c.in_err-part.ensures
+pub calls::arguments-returns-in-Err-NoText : goal.calls::arguments-returns-in-Err-NoText
+calls::arguments-returns-in-Err-NoText t c =
+    arguments_stop c.len.ensures (cc (c.min.ensures, c.in-Err-NoText.wrong-is)) c.loop-after.invariant c.in-Some.ensures
+    (told_left (Fails (Derives c.args.labels rule.Conditional) Anything c.in-Some.after.now) c.in-Err-NoText.field-0 c.in-Err-NoText.wrong c.in-Err-NoText.field-0-is c.in-Err-NoText.ensures)
 
-pub calls::parts-loop-after-preserved : goal.calls::parts-loop-after-preserved
-calls::parts-loop-after-preserved t c = parts_add c.args.function c.len.result c.in_ok-push.ensures.ok c.loop-after.invariant c.in-Some.ensures c.in_ok-part.ensures
+pub calls::arguments-returns-in-Some-accept_close : goal.calls::arguments-returns-in-Some-accept_close
+calls::arguments-returns-in-Some-accept_close t c = arguments_close c.args.function c.len-2.ensures c.in_ok-preceded-in-Some-accept_close.ensures c.loop-after.invariant c.in-Some-accept_close.ensures
 
-pub calls::parts-returns-in_default-past_close : goal.calls::parts-returns-in_default-past_close
-calls::parts-returns-in_default-past_close t c =
-    parts_end_open c.args.function c.len.result c.loop-after.rest.now c.len.ensures c.loop-after.invariant c.in_default.ensures c.in_default-past_close.ensures
+pub calls::arguments-returns : goal.calls::arguments-returns
+calls::arguments-returns t c = arguments_unclosed c.args.function c.loop-after.rest.now c.len.ensures c.len-2.ensures c.loop-after.invariant c.in_default.ensures c.in-None.ensures
 
-pub calls::parts-returns-then-not-takes : goal.calls::parts-returns-then-not-takes
-calls::parts-returns-then-not-takes t c =
-    parts_end_unfit c.len-2.ensures c.takes.ensures c.if-not-takes.true c.loop-after.invariant c.in-Some-past_close.ensures
+pub calls::call-returns-in-Some : goal.calls::call-returns-in-Some
+calls::call-returns-in-Some t c = answers_more c.arguments.result (λ value told. called_parses c.in-Some.ensures told) (λ left fails. called_fails c.in-Some.ensures left fails) c.arguments.ensures
 
-pub calls::parts-returns : goal.calls::parts-returns
-calls::parts-returns t c =
-    parts_end_whole c.len-2.ensures c.takes.ensures c.if-not-takes.false c.in_ok-preceded.ensures c.loop-after.invariant c.in-Some-past_close.ensures
+pub calls::call-returns-in-None : goal.calls::call-returns-in-None
+calls::call-returns-in-None t c = called_unopened c.args.tokens.now c.in-None.ensures
+
+-- ---- primaries
+
+pub primaries::primary-returns-in_err-tree : goal.primaries::primary-returns-in_err-tree
+primaries::primary-returns-in_err-tree t c =
+    raised (λ r. IsLongest (Derives c.args.labels rule.Primary) c.args.tokens.now r.tree r.rest.now r.left) (Fails (Ended (Derives c.args.labels rule.Conditional) k.Close) Anything c.in-Some.inside.now)
+    c.from_residual.result c.in_err-tree.field-0.0 c.from_residual.ensures.1 (paren_fails c.in-Some.ensures) c.in_err-tree.ensures
+
+pub primaries::primary-returns-in-Some : goal.primaries::primary-returns-in-Some
+primaries::primary-returns-in-Some t c = paren_whole c.in_ok-new.ensures c.in-Some.ensures c.in_ok-tree.ensures
+
+pub primaries::primary-returns-in_default-split_first : goal.primaries::primary-returns-in_default-split_first
+primaries::primary-returns-in_default-split_first t c = primary_nothing c.args.tokens.now c.in_default-split_first.ensures.cases
+
+pub primaries::primary-returns-in-Some-2 : goal.primaries::primary-returns-in-Some-2
+primaries::primary-returns-in-Some-2 t c = leaf_whole c.in-Some-split_first.first.now c.in-Some-split_first.ensures.cases.0 (sym c.in_ok-tree-2.ensures ∙ c.in-Some-2.is) (sym c.function.ensures ∙ c.in_default-function.is)
+
+pub primaries::primary-returns-in-None : goal.primaries::primary-returns-in-None
+primaries::primary-returns-in-None t c = leaf_fails c.in-Some-split_first.first.now c.in-Some-split_first.ensures.cases.0 c.in_default.ensures (sym c.in_ok-tree-2.ensures ∙ c.in-None.is) (sym c.function.ensures ∙ c.in_default-function.is)
+
+pub primaries::primary-returns-in-Ok : goal.primaries::primary-returns-in-Ok
+primaries::primary-returns-in-Ok t c = call_whole c.in-Some-split_first.first.now c.in-Some-split_first.ensures.cases.0 (sym c.in-Some-function.ensures) c.in-Ok.ensures
+
+pub primaries::primary-returns-in-Some-3 : goal.primaries::primary-returns-in-Some-3
+primaries::primary-returns-in-Some-3 t c =
+    subst (λ n. IsLongest (Derives c.args.labels rule.Primary) c.args.tokens.now c.in-Some-3.tree c.in-Some-split_first.rest.now n) (sym c.in-Err-NoText.left-is)
+    (name_whole c.in-Some-split_first.first.now c.in-Some-split_first.ensures.cases.0 (sym c.in-Some-function.ensures) (sym c.in_ok-tree-in-Err-NoText.ensures ∙ c.in-Some-3.is)
+    (told_left (Fails (IsCalled c.args.labels c.in-Some-function.function) Anything c.in-Some-split_first.rest.now) c.in-Err-NoText.field-0 c.in-Err-NoText.left c.in-Err-NoText.field-0-is c.in-Err-NoText.ensures))
+
+pub primaries::primary-returns-in-None-2 : goal.primaries::primary-returns-in-None-2
+primaries::primary-returns-in-None-2 t c =
+    subst (λ n. Fails (Derives c.args.labels rule.Primary) Anything c.args.tokens.now n) (sym c.in-Err-NoText.left-is)
+    (word_fails c.in-Some-split_first.first.now c.in-Some-split_first.ensures.cases.0 (sym c.in-Some-function.ensures) (sym c.in_ok-tree-in-Err-NoText.ensures ∙ c.in-None-2.is)
+    (told_left (Fails (IsCalled c.args.labels c.in-Some-function.function) Anything c.in-Some-split_first.rest.now) c.in-Err-NoText.field-0 c.in-Err-NoText.left c.in-Err-NoText.field-0-is c.in-Err-NoText.ensures))
