@@ -1,6 +1,8 @@
 pub mod OrderLemmas
+pub mod MemberLemmas
 pub mod PartLemmas
 pub mod StateLemmas
+pub mod ChoiceLemmas
 pub mod BranchLemmas
 pub mod StepLemmas
 pub mod OutcomeLemmas

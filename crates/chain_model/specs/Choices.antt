@@ -1,12 +1,14 @@
 -- What a state may do next: first each enabled command without an action, and then, action by action, all
 -- combinations of one enabled command of each module that takes part, the first module most significant.
-use Rattle.std.specs.Prelude.{ℕ, suc, ◌==◌, ◌&&◌, List, [], ◌∷◌, ◌++◌, map, filter, flat_map, Bool, true, false, Some, None, Result, Ok, if◌then◌else◌, slice_get}
+use Rattle.std.specs.Prelude.{◌≡◌, ◌⊎◌, ℕ, suc, ◌<◌, ◌==◌, ◌&&◌, List, [], ◌∷◌, ◌++◌, map, filter, flat_map, Bool, true, false, Option, Some, None, Result, Ok, if◌then◌else◌, slice_get}
 use Rattle.std.specs.List.{enumerate_from}
 use Rattle.std.specs.Option.{option_map_or}
 use Rattle.chain_model.specs.declared.outcome.TraceFault.{TraceFault}
 use Rattle.chain_model.specs.declared.values.LabelValues.{LabelValues}
+use Rattle.chain_model.specs.declared.values.Value.{Value}
 use Rattle.chain_model.specs.declared.expressions.Typed.{Typed}
 use Rattle.chain_model.specs.declared.chain.Act.{Act}
+use Rattle.chain_model.specs.declared.chain.Action.{Action}
 use Rattle.chain_model.specs.declared.chain.Chain.{Chain}
 use Rattle.chain_model.specs.declared.steps.Choice.{Choice}
 use Rattle.chain_model.specs.Chain.{is_part, is_unlabelled}
@@ -64,3 +66,38 @@ choices_among chain enabled =
 -- the choices of a state, or the fault of the first guard that faults
 unfoldable pub choices_of : Chain → State → Result (List Choice) TraceFault
 choices_of chain state = enabled_from 0 state chain.commands >>= λ enabled. Ok (choices_among chain enabled)
+
+-- the command of a number passes a test and is enabled in a state: its guard is true
+pub record IsEnabled (chain : Chain) (state : State) (test : Act → Bool) (number : ℕ) : Type 0 where
+  pub act : Act
+  pub there : slice_get chain.commands number ≡ Some act
+  pub passes : test act ≡ true
+  pub value : Value
+  pub guard : value_in state act.guard ≡ Ok value
+  pub holds : truth value ≡ true
+
+-- commands are one enabled command with an action of each of these modules, in their order
+pub data AreParts (chain : Chain) (state : State) (action : ℕ) : List ℕ → List ℕ → Type 0 where
+  none : AreParts chain state action [] []
+  more : {owner number : ℕ} {owners numbers : List ℕ} → IsEnabled chain state (is_part action owner) number
+      → AreParts chain state action owners numbers → AreParts chain state action (owner ∷ owners) (number ∷ numbers)
+
+-- a choice of a state is one enabled command without an action, or an action with one enabled command of each module that takes part
+pub data IsChoice (chain : Chain) (state : State) : Choice → Type 0 where
+  single : {number : ℕ} → IsEnabled chain state is_unlabelled number → IsChoice chain state (single_choice number)
+  joint : {number : ℕ} {action : Action} {commands : List ℕ} → slice_get chain.actions number ≡ Some action
+      → AreParts chain state number action.takes commands → IsChoice chain state (action_choice number commands)
+
+-- commands stand before others where the first that differs has the lower number
+abbrev pub IsBefore : List ℕ → List ℕ → Type 0
+IsBefore (m ∷ ms) (n ∷ ns) = (m < n) ⊎ ((m ≡ n) × IsBefore ms ns)
+IsBefore _ _ = ⊥
+
+-- the rank of a choice's action: choices without one come first
+abbrev pub rank_of : Option ℕ → ℕ
+rank_of None = 0
+rank_of (Some action) = suc action
+
+-- a choice stands before another by its action, or by its commands where they have the same
+abbrev pub IsEarlier : Choice → Choice → Type 0
+IsEarlier a b = (rank_of a.action < rank_of b.action) ⊎ ((a.action ≡ b.action) × IsBefore a.commands b.commands)

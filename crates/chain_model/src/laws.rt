@@ -1,16 +1,27 @@
 //! Laws of the definitions in `specs/`. Each is the contract of a function that does nothing when called.
 
 ghost use Rattle.std.specs.Prelude.{◌≡◌, ℕ, ◌+◌, ◌≤◌, ◌<◌, ◌^◌, ◌↔◌, List, [], Ok, Err, IfOk, length, take, sum};
+ghost use Rattle.std.specs.List.{AllPairs, Contains};
 ghost use Rattle.smc_num.specs.Fraction.{Fraction};
 ghost use Rattle.trace_streams.specs.Pick.{IsTaken};
 ghost use Rattle.chain_model.specs.declared.chain.Chain.{Chain};
+ghost use Rattle.chain_model.specs.declared.steps.Choice.{Choice};
 ghost use Rattle.chain_model.specs.declared.job.Job.{Job};
 ghost use Rattle.chain_model.specs.declared.outcome.Outcome.{Outcome};
-ghost use Rattle.chain_model.specs.States.{IsState};
-ghost use Rattle.chain_model.specs.Choices.{choices_of};
+ghost use Rattle.chain_model.specs.States.{State, IsState};
+ghost use Rattle.chain_model.specs.Choices.{choices_of, IsChoice, IsEarlier};
 ghost use Rattle.chain_model.specs.Step.{Configuration, no_choice, numerators_of, denominator_of, branch_number, step_of};
 ghost use Rattle.chain_model.specs.Trace.{configuration_at};
 ghost use Rattle.chain_model.specs.Outcome.{IsOutcome};
+
+/// Law: the choices of a state are all that there are, each once: first those without an action and then those of each
+/// action, and among these the commands of the first module count most.
+pub fn choices_are_all_in_order()
+    ensures all { (chain : Chain) (state : State) (choices : List Choice) → choices_of chain state ≡ Ok choices
+        → (choice : Choice) → Contains choices choice ↔ IsChoice chain state choice }
+    ensures order { (chain : Chain) (state : State) (choices : List Choice) → choices_of chain state ≡ Ok choices
+        → AllPairs IsEarlier choices }
+{}
 
 /// Law: in a state without a choice a step takes nothing and draws nothing, and the state stays as it is.
 pub fn stays_without_choice()
