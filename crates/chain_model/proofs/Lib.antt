@@ -5,5 +5,6 @@ pub mod StateLemmas
 pub mod ChoiceLemmas
 pub mod BranchLemmas
 pub mod StepLemmas
+pub mod DrawLemmas
 pub mod OutcomeLemmas
 pub mod TypingLemmas

@@ -21,13 +21,13 @@ use Rattle.chain_model.specs.Trace.{configuration_at}
 use Rattle.chain_model.proofs.StateLemmas.{initial_is_state, assignments_keep}
 
 -- what is bound gives a value only where both parts do
-bind_parts : {A B : Type 0} (r : Result A TraceFault) (f : A → Result B TraceFault) (P : B → Type 0)
+pub bind_parts : {A B : Type 0} (r : Result A TraceFault) (f : A → Result B TraceFault) (P : B → Type 0)
     → ((x : A) → r ≡ Ok x → IfOk (f x) P) → IfOk (r >>= f) P
 bind_parts (Ok x) f P kept = kept x refl
 bind_parts (Err fault) f P kept = tt
 
 -- the same after a test
-test_parts : {B : Type 0} (test : Bool) (fault : TraceFault) (r : Result B TraceFault) (P : B → Type 0)
+pub test_parts : {B : Type 0} (test : Bool) (fault : TraceFault) (r : Result B TraceFault) (P : B → Type 0)
     → (test ≡ false → IfOk r P) → IfOk (refuse_if test fault >> r) P
 test_parts true fault r P kept = tt
 test_parts false fault r P kept = kept refl

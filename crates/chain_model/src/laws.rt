@@ -8,6 +8,7 @@ ghost use Rattle.chain_model.specs.declared.chain.Chain.{Chain};
 ghost use Rattle.chain_model.specs.declared.steps.Choice.{Choice};
 ghost use Rattle.chain_model.specs.declared.job.Job.{Job};
 ghost use Rattle.chain_model.specs.declared.outcome.Outcome.{Outcome};
+ghost use Rattle.chain_model.specs.Limits.{most_modules};
 ghost use Rattle.chain_model.specs.States.{State, IsState};
 ghost use Rattle.chain_model.specs.Choices.{choices_of, IsChoice, IsEarlier};
 ghost use Rattle.chain_model.specs.Step.{Configuration, no_choice, numerators_of, denominator_of, branch_number, step_of};
@@ -53,4 +54,13 @@ pub fn traces_keep_ranges()
 /// Law: a trace has at most one outcome.
 pub fn one_outcome()
     ensures { (job : Job) (trace : ℕ) (a b : Outcome) → IsOutcome job trace a → IsOutcome job trace b → a ≡ b }
+{}
+
+/// Law: a choice has a command of each of at most 64 modules, so a step takes at most 65 draws: one for its choice, and
+/// one for the branch of each command.
+pub fn steps_draw_few()
+    ensures commands { (chain : Chain) (state : State) (choices : List Choice) → choices_of chain state ≡ Ok choices
+        → (choice : Choice) → Contains choices choice → length choice.commands ≤ most_modules }
+    ensures draws { (chain : Chain) (draw : ℕ → ℕ) (from : Configuration)
+        → IfOk (step_of chain draw from) (λ step. step.0.position ≤ from.position + (most_modules + 1)) }
 {}

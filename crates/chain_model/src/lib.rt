@@ -23,7 +23,8 @@ pub use constants::Given;
 pub use expressions::{Form, Func, Labels, Op, Typed};
 pub use job::{Claim, Job, Path, PathKind};
 pub use laws::{
-    branch_holds_the_pick, choices_are_all_in_order, one_outcome, stays_without_choice, step_keeps_ranges, traces_keep_ranges,
+    branch_holds_the_pick, choices_are_all_in_order, one_outcome, stays_without_choice, step_keeps_ranges, steps_draw_few,
+    traces_keep_ranges,
 };
 pub use outcome::{Outcome, TraceFault};
 pub use sorts::{
