@@ -71,10 +71,10 @@ split : (base : ℕ) (state : State) (act : Act) (acts : List Act) (enabled : Li
     → Split base state act acts enabled
 split base state act acts enabled made =
     let first : (value : Value) × (value_in state act.guard ≡ Ok value)
-        × Gives enabled (enabled_from (suc base) state acts >>= λ others. Ok (if truth value then base ∷ others else others)) =
+    × Gives enabled (enabled_from (suc base) state acts >>= λ others. Ok (if truth value then base ∷ others else others)) =
     bind-Ok (value_in state act.guard) (λ value. enabled_from (suc base) state acts >>= λ others. Ok (if truth value then base ∷ others else others)) enabled made in
     let second : (others : List ℕ) × (enabled_from (suc base) state acts ≡ Ok others)
-        × Gives enabled (Ok (if truth first.0 then base ∷ others else others)) =
+    × Gives enabled (Ok (if truth first.0 then base ∷ others else others)) =
     bind-Ok (enabled_from (suc base) state acts) (λ others. Ok (if truth first.0 then base ∷ others else others)) enabled first.2 in
     record { value = first.0; guard = first.1; others = second.0; rest = second.1; same = cc }
 
@@ -204,9 +204,9 @@ combinations_rise acts enabled rise action (owner ∷ owners) =
     ordered-flat_map ◌<◌ IsBefore (λ item. map (λ others. item ∷ others) rest) (filter (command_is (is_part action owner) acts) enabled)
     (λ item _. ordered-map IsBefore IsBefore (λ others. item ∷ others) rest (λ x y before. inr (refl, before)) (combinations_rise acts enabled rise action owners))
     (λ item later a b less first second.
-       let front : (numbers : List ℕ) × In numbers rest × ((item ∷ numbers) ≡ a) = from-map (λ (numbers : List ℕ). item ∷ numbers) a rest first in
-       let back : (numbers : List ℕ) × In numbers rest × ((later ∷ numbers) ≡ b) = from-map (λ (numbers : List ℕ). later ∷ numbers) b rest second in
-       subst (λ (x : List ℕ). IsBefore x b) front.2 (subst (IsBefore (item ∷ front.0)) back.2 (inl less)))
+    let front : (numbers : List ℕ) × In numbers rest × ((item ∷ numbers) ≡ a) = from-map (λ (numbers : List ℕ). item ∷ numbers) a rest first in
+    let back : (numbers : List ℕ) × In numbers rest × ((later ∷ numbers) ≡ b) = from-map (λ (numbers : List ℕ). later ∷ numbers) b rest second in
+    subst (λ (x : List ℕ). IsBefore x b) front.2 (subst (IsBefore (item ∷ front.0)) back.2 (inl less)))
     (ordered-filter ◌<◌ (command_is (is_part action owner) acts) enabled rise)
 
 -- each of the choices is one of the state
@@ -251,11 +251,12 @@ in-from_choice chain state enabled made _ (joint {number = number} {action = act
 -- items stand in the order of their numbers
 numbers_rise : {A : Type 0} (base : ℕ) (xs : List A) → Ordered (λ (p q : ℕ × A). p.0 < q.0) (enumerate_from base xs)
 numbers_rise base [] = tt
-numbers_rise {A} base (x ∷ xs) =
-    (λ q within.
-       let from : (i : ℕ) × (q.0 ≡ base + 1 + i) × (slice_get xs i ≡ Some q.1) = from-numbered {A = A} (base + 1) q xs within in
-       omega (arith, from.1),
-     numbers_rise {A = A} (base + 1) xs)
+numbers_rise {A} base (x ∷ xs) = (
+  λ q within.
+      let from : (i : ℕ) × (q.0 ≡ base + 1 + i) × (slice_get xs i ≡ Some q.1) = from-numbered {A = A} (base + 1) q xs within in
+      omega (arith, from.1),
+  numbers_rise {A = A} (base + 1) xs,
+)
 
 -- the choices are in order
 choices_rise : (chain : Chain) (enabled : List ℕ) → Ordered ◌<◌ enabled → Ordered IsEarlier (choices_among chain enabled)
@@ -267,21 +268,21 @@ choices_rise chain enabled rise =
     (ordered-filter ◌<◌ (command_is is_unlabelled chain.commands) enabled rise))
     (ordered-flat_map (λ (p q : ℕ × Action). p.0 < q.0) IsEarlier (λ action. action_choices chain.commands enabled action.0 action.1.takes) (enumerate_from 0 chain.actions)
     (λ p _. ordered-map IsBefore IsEarlier (action_choice p.0) (combinations (parts_of chain.commands enabled p.0 p.1.takes)) (λ x y before. inr (refl, before))
-        (combinations_rise chain.commands enabled rise p.0 p.1.takes))
+    (combinations_rise chain.commands enabled rise p.0 p.1.takes))
     (λ p q a b less first second.
-       let front : (commands : List ℕ) × In commands (combinations (parts_of chain.commands enabled p.0 p.1.takes)) × (action_choice p.0 commands ≡ a) =
-       from-map (action_choice p.0) a (combinations (parts_of chain.commands enabled p.0 p.1.takes)) first in
-       let back : (commands : List ℕ) × In commands (combinations (parts_of chain.commands enabled q.0 q.1.takes)) × (action_choice q.0 commands ≡ b) =
-       from-map (action_choice q.0) b (combinations (parts_of chain.commands enabled q.0 q.1.takes)) second in
-       subst (λ (x : Choice). IsEarlier x b) front.2 (subst (IsEarlier (action_choice p.0 front.0)) back.2 (inl (omega (arith, less)))))
+    let front : (commands : List ℕ) × In commands (combinations (parts_of chain.commands enabled p.0 p.1.takes)) × (action_choice p.0 commands ≡ a) =
+    from-map (action_choice p.0) a (combinations (parts_of chain.commands enabled p.0 p.1.takes)) first in
+    let back : (commands : List ℕ) × In commands (combinations (parts_of chain.commands enabled q.0 q.1.takes)) × (action_choice q.0 commands ≡ b) =
+    from-map (action_choice q.0) b (combinations (parts_of chain.commands enabled q.0 q.1.takes)) second in
+    subst (λ (x : Choice). IsEarlier x b) front.2 (subst (IsEarlier (action_choice p.0 front.0)) back.2 (inl (omega (arith, less)))))
     (numbers_rise 0 chain.actions))
     (λ a b first second.
-       let front : (number : ℕ) × In number singles × (single_choice number ≡ a) = from-map single_choice a singles first in
-       let back : (p : ℕ × Action) × In p (enumerate_from 0 chain.actions) × In b (action_choices chain.commands enabled p.0 p.1.takes) =
-       from-flat_map (λ action. action_choices chain.commands enabled action.0 action.1.takes) b (enumerate_from 0 chain.actions) second in
-       let parts : (commands : List ℕ) × In commands (combinations (parts_of chain.commands enabled back.0.0 back.0.1.takes)) × (action_choice back.0.0 commands ≡ b) =
-       from-map (action_choice back.0.0) b (combinations (parts_of chain.commands enabled back.0.0 back.0.1.takes)) back.2 in
-       subst (λ (x : Choice). IsEarlier x b) front.2 (subst (IsEarlier (single_choice front.0)) parts.2 (inl (omega arith))))
+    let front : (number : ℕ) × In number singles × (single_choice number ≡ a) = from-map single_choice a singles first in
+    let back : (p : ℕ × Action) × In p (enumerate_from 0 chain.actions) × In b (action_choices chain.commands enabled p.0 p.1.takes) =
+    from-flat_map (λ action. action_choices chain.commands enabled action.0 action.1.takes) b (enumerate_from 0 chain.actions) second in
+    let parts : (commands : List ℕ) × In commands (combinations (parts_of chain.commands enabled back.0.0 back.0.1.takes)) × (action_choice back.0.0 commands ≡ b) =
+    from-map (action_choice back.0.0) b (combinations (parts_of chain.commands enabled back.0.0 back.0.1.takes)) back.2 in
+    subst (λ (x : Choice). IsEarlier x b) front.2 (subst (IsEarlier (single_choice front.0)) parts.2 (inl (omega arith))))
 
 -- the enabled commands of a state whose choices are known
 pub record Known (chain : Chain) (state : State) (choices : List Choice) : Type 0 where
@@ -293,7 +294,7 @@ pub known-from_choices : (chain : Chain) (state : State) (choices : List Choice)
 unfolding choices_of
 known-from_choices chain state choices made =
     let from : (enabled : List ℕ) × (enabled_from 0 state chain.commands ≡ Ok enabled)
-        × IsMade choices (Ok (choices_among chain enabled)) =
+    × IsMade choices (Ok (choices_among chain enabled)) =
     bind-Ok (enabled_from 0 state chain.commands) (λ enabled. Ok (choices_among chain enabled)) choices made in
     record { enabled = from.0; made = from.1; same = cc }
 
@@ -301,9 +302,10 @@ known-from_choices chain state choices made =
 pub choices_are_all : (chain : Chain) (state : State) (choices : List Choice) → choices_of chain state ≡ Ok choices
     → (choice : Choice) → (Contains choices choice → IsChoice chain state choice) × (IsChoice chain state choice → Contains choices choice)
 choices_are_all chain state choices made choice =
-    let known : Known chain state choices = known-from_choices chain state choices made in
-    (λ within. choice-from_in chain state known.enabled known.made choice (subst (In choice) (sym known.same) (in-from_contains choices choice within)),
-     λ is. contains-from_in choices choice (subst (In choice) known.same (in-from_choice chain state known.enabled known.made choice is)))
+    let known : Known chain state choices = known-from_choices chain state choices made in (
+      λ within. choice-from_in chain state known.enabled known.made choice (subst (In choice) (sym known.same) (in-from_contains choices choice within)),
+      λ is. contains-from_in choices choice (subst (In choice) known.same (in-from_choice chain state known.enabled known.made choice is)),
+    )
 
 -- and they stand in order
 pub choices_in_order : (chain : Chain) (state : State) (choices : List Choice) → choices_of chain state ≡ Ok choices → AllPairs IsEarlier choices

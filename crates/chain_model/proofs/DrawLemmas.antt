@@ -107,8 +107,12 @@ draws_for-le count = cond_both (is_drawn count) 1 0 (λ n. n ≤ 1) (λ _. omega
 command_draws-le : (chain : Chain) (commands : List ℕ) → sum (map (command_draws chain) commands) ≤ length commands
 command_draws-le chain [] = omega arith
 command_draws-le chain (command ∷ commands) =
-    omega (arith, sum_by-cons (λ (n : ℕ). n) (command_draws chain command) (map (command_draws chain) commands),
-    draws_for-le, command_draws-le chain commands)
+    omega (
+      arith,
+      sum_by-cons (λ (n : ℕ). n) (command_draws chain command) (map (command_draws chain) commands),
+      draws_for-le,
+      command_draws-le chain commands,
+    )
 
 -- a step takes at most 65 draws
 pub step_draws_few : (chain : Chain) (draw : ℕ → ℕ) (from : Configuration)
@@ -117,9 +121,13 @@ unfolding step_of
 step_draws_few chain draw from =
     bind_parts (choices_of chain from.state) _ (λ step. step.0.position ≤ from.position + (most_modules + 1))
     (λ choices made. test_parts (nat_lt most_choices (length choices)) Choices _ (λ step. step.0.position ≤ from.position + (most_modules + 1))
-        (λ _. bind_parts (branches_of chain draw from.state (from.position + draws_for (length choices)) (choice_of draw from.position choices).commands) _
-            (λ step. step.0.position ≤ from.position + (most_modules + 1))
-            (λ branches _. bind_parts (each (assignment_of chain from.state) (all_sets chain (choice_of draw from.position choices).commands branches)) _
-                (λ step. step.0.position ≤ from.position + (most_modules + 1))
-                (λ assigned _. omega (arith, draws_for-le (length choices), command_draws-le chain (choice_of draw from.position choices).commands,
-                taken_few chain from.state choices made (if is_drawn (length choices) then pick_of (draw from.position) (length choices) else 0))))))
+    (λ _. bind_parts (branches_of chain draw from.state (from.position + draws_for (length choices)) (choice_of draw from.position choices).commands) _
+    (λ step. step.0.position ≤ from.position + (most_modules + 1))
+    (λ branches _. bind_parts (each (assignment_of chain from.state) (all_sets chain (choice_of draw from.position choices).commands branches)) _
+    (λ step. step.0.position ≤ from.position + (most_modules + 1))
+    (λ assigned _. omega (
+      arith,
+      draws_for-le (length choices),
+      command_draws-le chain (choice_of draw from.position choices).commands,
+      taken_few chain from.state choices made (if is_drawn (length choices) then pick_of (draw from.position) (length choices) else 0),
+    )))))

@@ -146,22 +146,24 @@ pairs-from_ordered {A} R (x ∷ xs) ordered =
 pub ordered-append : {A : Type 0} (R : A → A → Type 0) (xs ys : List A) → Ordered R xs → Ordered R ys
     → ((x y : A) → In x xs → In y ys → R x y) → Ordered R (xs ++ ys)
 ordered-append R [] ys first second across = second
-ordered-append {A} R (x ∷ xs) ys first second across =
-    (λ y within. elim (in-parts {A = A} y xs ys within) [
-       | inl front ↦ first.0 y front
-       | inr back ↦ across x y (inl refl) back
-     ],
-     ordered-append {A = A} R xs ys first.1 second (λ z y inside there. across z y (inr inside) there))
+ordered-append {A} R (x ∷ xs) ys first second across = (
+  λ y within. elim (in-parts {A = A} y xs ys within) [
+    | inl front ↦ first.0 y front
+    | inr back ↦ across x y (inl refl) back
+  ],
+  ordered-append {A = A} R xs ys first.1 second (λ z y inside there. across z y (inr inside) there),
+)
 
 -- an ordered list, mapped
 pub ordered-map : {A B : Type 0} (R : A → A → Type 0) (S : B → B → Type 0) (f : A → B) (xs : List A)
     → ((x y : A) → R x y → S (f x) (f y)) → Ordered R xs → Ordered S (map f xs)
 ordered-map R S f [] kept ordered = tt
-ordered-map {A} {B} R S f (x ∷ xs) kept ordered =
-    (λ y within.
-       let from : (z : A) × In z xs × (f z ≡ y) = from-map {A = A} {B = B} f y xs within in
-       subst (S (f x)) from.2 (kept x from.0 (ordered.0 from.0 from.1)),
-     ordered-map {A = A} {B = B} R S f xs kept ordered.1)
+ordered-map {A} {B} R S f (x ∷ xs) kept ordered = (
+  λ y within.
+      let from : (z : A) × In z xs × (f z ≡ y) = from-map {A = A} {B = B} f y xs within in
+      subst (S (f x)) from.2 (kept x from.0 (ordered.0 from.0 from.1)),
+  ordered-map {A = A} {B = B} R S f xs kept ordered.1,
+)
 
 -- what is kept of an ordered list
 pub ordered-filter : {A : Type 0} (R : A → A → Type 0) (p : A → Bool) (xs : List A) → Ordered R xs → Ordered R (filter p xs)
@@ -184,5 +186,5 @@ ordered-flat_map {A} {B} R S f (x ∷ xs) each across ordered =
     ordered-append {A = B} S (f x) (flat_map f xs) (each x (inl refl))
     (ordered-flat_map {A = A} {B = B} R S f xs (λ y within. each y (inr within)) across ordered.1)
     (λ a b here there.
-       let from : (y : A) × In y xs × In b (f y) = from-flat_map {A = A} {B = B} f b xs there in
-       across x from.0 a b (ordered.0 from.0 from.1) here from.2)
+    let from : (y : A) × In y xs × In b (f y) = from-flat_map {A = A} {B = B} f b xs there in
+    across x from.0 a b (ordered.0 from.0 from.1) here from.2)

@@ -41,7 +41,7 @@ assignment_within chain state set =
     (λ value. refuse_if (not (is_within (slice_get chain.vars set.0) (stored value))) (Range set.0) >> Ok (set.0, stored value))
     (λ one. is_within (slice_get chain.vars one.0) one.1 ≡ true)
     (λ value _. test_parts (not (is_within (slice_get chain.vars set.0) (stored value))) (Range set.0) (Ok (set.0, stored value))
-        (λ one. is_within (slice_get chain.vars one.0) one.1 ≡ true) (λ passes. not-false (is_within (slice_get chain.vars set.0) (stored value)) passes))
+    (λ one. is_within (slice_get chain.vars one.0) one.1 ≡ true) (λ passes. not-false (is_within (slice_get chain.vars set.0) (stored value)) passes))
 
 -- so are all that a step makes
 assignments_within : (chain : Chain) (state : State) (sets : List (ℕ × Typed))
@@ -51,11 +51,11 @@ assignments_within chain state (set ∷ sets) =
     bind_parts (assignment_of chain state set) (λ one. each (assignment_of chain state) sets >>= λ others. Ok (one ∷ others))
     (λ assigned. All (λ one. is_within (slice_get chain.vars one.0) one.1 ≡ true) assigned)
     (λ one made. bind_parts (each (assignment_of chain state) sets) (λ others. Ok (one ∷ others))
-        (λ assigned. All (λ one. is_within (slice_get chain.vars one.0) one.1 ≡ true) assigned)
-        (λ others rest. All-cons (λ (o : ℕ × ℤ). is_within (slice_get chain.vars o.0) o.1 ≡ true) one others
-            (subst (λ (r : Result (ℕ × ℤ) TraceFault). IfOk r (λ o. is_within (slice_get chain.vars o.0) o.1 ≡ true)) made (assignment_within chain state set))
-            (subst (λ (r : Result (List (ℕ × ℤ)) TraceFault). IfOk r (λ os. All (λ o. is_within (slice_get chain.vars o.0) o.1 ≡ true) os)) rest
-            (assignments_within chain state sets))))
+    (λ assigned. All (λ one. is_within (slice_get chain.vars one.0) one.1 ≡ true) assigned)
+    (λ others rest. All-cons (λ (o : ℕ × ℤ). is_within (slice_get chain.vars o.0) o.1 ≡ true) one others
+    (subst (λ (r : Result (ℕ × ℤ) TraceFault). IfOk r (λ o. is_within (slice_get chain.vars o.0) o.1 ≡ true)) made (assignment_within chain state set))
+    (subst (λ (r : Result (List (ℕ × ℤ)) TraceFault). IfOk r (λ os. All (λ o. is_within (slice_get chain.vars o.0) o.1 ≡ true) os)) rest
+    (assignments_within chain state sets))))
 
 -- a step from a state of the chain leads to one
 pub step_keeps : (chain : Chain) (draw : ℕ → ℕ) (from : Configuration) → IsState chain from.state
@@ -64,13 +64,13 @@ unfolding step_of
 step_keeps chain draw from fits =
     bind_parts (choices_of chain from.state) _ (λ step. IsState chain step.0.state)
     (λ choices _. test_parts (nat_lt most_choices (length choices)) Choices _ (λ step. IsState chain step.0.state)
-        (λ _. bind_parts (branches_of chain draw from.state (from.position + draws_for (length choices)) (choice_of draw from.position choices).commands) _
-            (λ step. IsState chain step.0.state)
-            (λ branches _. bind_parts (each (assignment_of chain from.state) (all_sets chain (choice_of draw from.position choices).commands branches)) _
-                (λ step. IsState chain step.0.state)
-                (λ assigned made. assignments_keep chain assigned from.state fits
-                    (subst (λ (r : Result (List (ℕ × ℤ)) TraceFault). IfOk r (λ os. All (λ o. is_within (slice_get chain.vars o.0) o.1 ≡ true) os)) made
-                    (assignments_within chain from.state (all_sets chain (choice_of draw from.position choices).commands branches)))))))
+    (λ _. bind_parts (branches_of chain draw from.state (from.position + draws_for (length choices)) (choice_of draw from.position choices).commands) _
+    (λ step. IsState chain step.0.state)
+    (λ branches _. bind_parts (each (assignment_of chain from.state) (all_sets chain (choice_of draw from.position choices).commands branches)) _
+    (λ step. IsState chain step.0.state)
+    (λ assigned made. assignments_keep chain assigned from.state fits
+    (subst (λ (r : Result (List (ℕ × ℤ)) TraceFault). IfOk r (λ os. All (λ o. is_within (slice_get chain.vars o.0) o.1 ≡ true) os)) made
+    (assignments_within chain from.state (all_sets chain (choice_of draw from.position choices).commands branches)))))))
 
 -- each state of a trace is one of the chain
 pub trace_keeps : (job : Job) (trace k : ℕ) → IfOk (configuration_at job trace k) (λ from. IsState job.chain from.state)
@@ -80,9 +80,9 @@ trace_keeps job trace (suc k) =
     bind_parts (configuration_at job trace k) (λ from. step_of job.chain (draw_at job.seed trace) from >>= λ step. Ok step.0)
     (λ from. IsState job.chain from.state)
     (λ from made. bind_parts (step_of job.chain (draw_at job.seed trace) from) (λ step. Ok step.0) (λ to. IsState job.chain to.state)
-        (λ step taken. subst (λ (r : Result (Configuration × Taken) TraceFault). IfOk r (λ s. IsState job.chain s.0.state)) taken
-            (step_keeps job.chain (draw_at job.seed trace) from
-            (subst (λ (r : Result Configuration TraceFault). IfOk r (λ c. IsState job.chain c.state)) made (trace_keeps job trace k)))))
+    (λ step taken. subst (λ (r : Result (Configuration × Taken) TraceFault). IfOk r (λ s. IsState job.chain s.0.state)) taken
+    (step_keeps job.chain (draw_at job.seed trace) from
+    (subst (λ (r : Result Configuration TraceFault). IfOk r (λ c. IsState job.chain c.state)) made (trace_keeps job trace k)))))
 
 -- without a choice nothing is taken, and the state and the position stay
 pub step_stays : (chain : Chain) (draw : ℕ → ℕ) (from : Configuration) → choices_of chain from.state ≡ Ok []

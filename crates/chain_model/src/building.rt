@@ -289,7 +289,13 @@ fn are_few(modules: usize, vars: usize, commands: usize) -> bool
 }
 
 /// Whether parts are a chain.
-fn is_chain(vars: &[Var], actions: &[Action], modules: &[Text], commands: &[Act], labels: &[(Text, Typed)]) -> bool
+fn is_chain(
+    vars: &[Var],
+    actions: &[Action],
+    modules: &[Text],
+    commands: &[Act],
+    labels: &[(Text, Typed)],
+) -> bool
     ensures { IsTrue result ↔ IsChain vars.now actions.now modules.now commands.now labels.now }
 {
     are_few(modules.len(), vars.len(), commands.len())

@@ -80,7 +80,9 @@ impl Job {
 fn is_path(vars: &[Var], path: &Path) -> bool
     ensures { IsTrue result ↔ IsPath vars.now path.now }
 {
-    path.kind.horizon() <= MOST_HORIZON && has_truth(vars, &path.first) && has_truth(vars, &path.second)
+    path.kind.horizon() <= MOST_HORIZON
+        && has_truth(vars, &path.first)
+        && has_truth(vars, &path.second)
 }
 
 /// Whether an expression is well typed, and of sort `bool`. The built-in labels may stand in it.

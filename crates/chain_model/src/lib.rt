@@ -23,8 +23,8 @@ pub use constants::Given;
 pub use expressions::{Form, Func, Labels, Op, Typed};
 pub use job::{Claim, Job, Path, PathKind};
 pub use laws::{
-    branch_holds_the_pick, choices_are_all_in_order, one_outcome, stays_without_choice, step_keeps_ranges, steps_draw_few,
-    traces_keep_ranges,
+    branch_holds_the_pick, choices_are_all_in_order, one_outcome, stays_without_choice,
+    step_keeps_ranges, steps_draw_few, traces_keep_ranges,
 };
 pub use outcome::{Outcome, TraceFault};
 pub use sorts::{
@@ -35,3 +35,8 @@ pub use starting::initial;
 pub use steps::{Choice, Taken};
 pub use typing::sort_of;
 pub use values::{LabelValues, Sort, Value};
+
+#[cfg(test)]
+mod chain_tests;
+#[cfg(test)]
+mod tests;
