@@ -44,64 +44,41 @@ fn node(leaf: Leaf) -> Typed {
 /// each module with the only action.
 #[derive(Clone, Copy)]
 struct Parts {
-    /// The first variable.
-    owner: Option<u32>,
-    sort: Sort,
-    lo: i64,
-    hi: i64,
-    init: i64,
-    /// The first command, with two assignments.
-    module: u32,
-    action: Option<u32>,
-    guard: Leaf,
-    branches: usize,
-    weight: Leaf,
-    set: (u32, Leaf),
-    last: u32,
+    /// The first variable's module, sort, least and greatest value, and the value that it starts with.
+    variable: (Option<u32>, Sort, i64, i64, i64),
+    /// The first command's module, action, guard and weight.
+    command: (u32, Option<u32>, Leaf, Leaf),
+    /// The first command's assignments, the second of which is of `true`.
+    sets: (u32, Leaf, u32),
     /// The assignment of the command of the first module with the action.
     labelled: (u32, Leaf),
     takes: &'static [u32],
-    actions: usize,
     label: Leaf,
-    /// How many there are of each.
-    modules: usize,
-    globals: usize,
-    parts: usize,
+    /// How many branches of the first command, actions, modules, globals, and commands of the second module there are.
+    counts: (usize, usize, usize, usize, usize),
 }
 
 const PARTS: Parts = Parts {
-    owner: Some(0),
-    sort: Sort::Int,
-    lo: -2,
-    hi: 3,
-    init: 1,
-    module: 0,
-    action: None,
-    guard: Leaf::Truth,
-    branches: 1,
-    weight: Leaf::Whole(1),
-    set: (0, Leaf::Var(0, Sort::Int)),
-    last: 1,
+    variable: (Some(0), Sort::Int, -2, 3, 1),
+    command: (0, None, Leaf::Truth, Leaf::Whole(1)),
+    sets: (0, Leaf::Var(0, Sort::Int), 1),
     labelled: (0, Leaf::Whole(1)),
     takes: &[0, 1],
-    actions: 1,
     label: Leaf::Var(1, Sort::Bool),
-    modules: 2,
-    globals: 1,
-    parts: 1,
+    counts: (1, 1, 2, 1, 1),
 };
 
 fn variables(alloc: Global, parts: &Parts) -> Result<Items<Var>, AllocError> {
     let mut vars = Items::new(alloc);
     vars.push(Var {
         name: Text::from_bytes(alloc, b"x")?,
-        owner: parts.owner,
-        sort: parts.sort,
-        lo: parts.lo,
-        hi: parts.hi,
-        init: parts.init,
+        owner: parts.variable.0,
+        sort: parts.variable.1,
+        lo: parts.variable.2,
+        hi: parts.variable.3,
+        init: parts.variable.4,
     })?;
-    for _ in 0..parts.globals {
+    for _ in 0..parts.counts.3 {
         vars.push(Var {
             name: Text::from_bytes(alloc, b"g")?,
             owner: None,
@@ -116,19 +93,19 @@ fn variables(alloc: Global, parts: &Parts) -> Result<Items<Var>, AllocError> {
 
 fn first_command(alloc: Global, parts: &Parts) -> Result<Act, AllocError> {
     let mut branches = Items::new(alloc);
-    for _ in 0..parts.branches {
+    for _ in 0..parts.counts.0 {
         let mut sets = Items::new(alloc);
-        sets.push((parts.set.0, node(parts.set.1)))?;
-        sets.push((parts.last, node(Leaf::Truth)))?;
+        sets.push((parts.sets.0, node(parts.sets.1)))?;
+        sets.push((parts.sets.2, node(Leaf::Truth)))?;
         branches.push(Arm {
-            weight: node(parts.weight),
+            weight: node(parts.command.3),
             sets,
         })?;
     }
     Ok(Act {
-        module: parts.module,
-        action: parts.action,
-        guard: node(parts.guard),
+        module: parts.command.0,
+        action: parts.command.1,
+        guard: node(parts.command.2),
         branches,
     })
 }
@@ -157,7 +134,7 @@ fn commands(alloc: Global, parts: &Parts) -> Result<Items<Act>, AllocError> {
     let mut commands = Items::new(alloc);
     commands.push(first_command(alloc, parts)?)?;
     commands.push(labelled_command(alloc, 0, sets)?)?;
-    for _ in 0..parts.parts {
+    for _ in 0..parts.counts.4 {
         commands.push(labelled_command(alloc, 1, Items::new(alloc))?)?;
     }
     Ok(commands)
@@ -165,7 +142,7 @@ fn commands(alloc: Global, parts: &Parts) -> Result<Items<Act>, AllocError> {
 
 fn actions(alloc: Global, parts: &Parts) -> Result<Items<Action>, AllocError> {
     let mut actions = Items::new(alloc);
-    for _ in 0..parts.actions {
+    for _ in 0..parts.counts.1 {
         actions.push(Action {
             name: Text::from_bytes(alloc, b"a")?,
             takes: Items::from_slice(alloc, parts.takes)?,
@@ -176,7 +153,7 @@ fn actions(alloc: Global, parts: &Parts) -> Result<Items<Action>, AllocError> {
 
 fn chain(alloc: Global, parts: &Parts) -> Result<Option<Chain>, AllocError> {
     let mut modules = Items::new(alloc);
-    for _ in 0..parts.modules {
+    for _ in 0..parts.counts.2 {
         modules.push(Text::from_bytes(alloc, b"m")?)?;
     }
     let mut labels = Items::new(alloc);
@@ -190,155 +167,124 @@ fn chain(alloc: Global, parts: &Parts) -> Result<Option<Chain>, AllocError> {
 const GREATEST: i64 = 4_611_686_018_427_387_903;
 
 #[test]
-fn parts_are_taken_exactly_where_no_sentence_is_broken(rt: HostRuntime) -> Result<(), Fail> {
+fn a_variable_starts_in_its_range_and_has_a_module(rt: HostRuntime) -> Result<(), Fail> {
     let alloc = rt.alloc();
-    let taken = [
-        PARTS,
-        Parts {
-            lo: -GREATEST,
-            hi: GREATEST,
-            init: -GREATEST,
-            ..PARTS
-        },
-        Parts {
-            labelled: (0, Leaf::Var(0, Sort::Int)),
-            ..PARTS
-        },
-        Parts {
-            branches: MOST_BRANCHES,
-            ..PARTS
-        },
-        Parts {
-            modules: MOST_MODULES,
-            globals: MOST_VARIABLES - 1,
-            parts: MOST_COMMANDS - 2,
-            ..PARTS
-        },
+    let cases = [
+        ((Some(0), Sort::Int, -2, 3, 1), true),
+        ((Some(0), Sort::Int, -GREATEST, GREATEST, -GREATEST), true),
+        ((Some(0), Sort::Double, -2, 3, 1), false),
+        ((Some(2), Sort::Int, -2, 3, 1), false),
+        ((Some(0), Sort::Int, -2, 3, 4), false),
+        ((Some(0), Sort::Int, -2, 3, -3), false),
+        ((Some(0), Sort::Int, -2, GREATEST + 1, 1), false),
+        ((Some(0), Sort::Int, -GREATEST - 1, 3, 1), false),
+        ((Some(0), Sort::Bool, 0, 1, 1), false),
     ];
-    for parts in &taken {
-        assert!(rt; chain(alloc, parts)?.is_some());
+    for (variable, taken) in cases {
+        let parts = Parts { variable, ..PARTS };
+        assert_eq!(rt; chain(alloc, &parts)?.is_some(), taken);
     }
-    let refused = [
-        Parts {
-            sort: Sort::Double,
-            ..PARTS
-        },
-        Parts {
-            owner: Some(2),
-            ..PARTS
-        },
-        Parts { init: 4, ..PARTS },
-        Parts { init: -3, ..PARTS },
-        Parts {
-            hi: GREATEST + 1,
-            ..PARTS
-        },
-        Parts {
-            lo: -GREATEST - 1,
-            ..PARTS
-        },
-        Parts {
-            sort: Sort::Bool,
-            ..PARTS
-        },
-        Parts { module: 2, ..PARTS },
-        Parts { module: 1, ..PARTS },
-        Parts {
-            action: Some(1),
-            ..PARTS
-        },
-        Parts {
-            guard: Leaf::Whole(1),
-            ..PARTS
-        },
-        Parts {
-            guard: Leaf::Init,
-            ..PARTS
-        },
-        Parts {
-            guard: Leaf::Var(2, Sort::Bool),
-            ..PARTS
-        },
-        Parts {
-            guard: Leaf::Var(0, Sort::Bool),
-            ..PARTS
-        },
-        Parts {
-            weight: Leaf::Truth,
-            ..PARTS
-        },
-        Parts {
-            set: (0, Leaf::Truth),
-            ..PARTS
-        },
-        Parts {
-            set: (2, Leaf::Truth),
-            ..PARTS
-        },
-        Parts {
-            set: (1, Leaf::Truth),
-            ..PARTS
-        },
-        Parts {
-            labelled: (1, Leaf::Truth),
-            ..PARTS
-        },
-        Parts {
-            branches: 0,
-            ..PARTS
-        },
-        Parts {
-            branches: MOST_BRANCHES + 1,
-            ..PARTS
-        },
-        Parts {
-            takes: &[],
-            ..PARTS
-        },
-        Parts {
-            takes: &[0],
-            ..PARTS
-        },
-        Parts {
-            takes: &[1, 0],
-            ..PARTS
-        },
-        Parts {
-            takes: &[0, 1, 1],
-            ..PARTS
-        },
-        Parts {
-            takes: &[0, 1, 2],
-            modules: 3,
-            ..PARTS
-        },
-        Parts {
-            actions: 2,
-            ..PARTS
-        },
-        Parts {
-            modules: MOST_MODULES + 1,
-            ..PARTS
-        },
-        Parts {
-            globals: MOST_VARIABLES,
-            ..PARTS
-        },
-        Parts {
-            parts: MOST_COMMANDS - 1,
-            ..PARTS
-        },
-        Parts {
-            label: Leaf::Whole(1),
-            ..PARTS
-        },
-        Parts {
-            label: Leaf::Init,
-            ..PARTS
-        },
+    Ok(())
+}
+
+#[test]
+fn a_command_has_a_module_an_action_a_guard_and_weights(rt: HostRuntime) -> Result<(), Fail> {
+    let alloc = rt.alloc();
+    let (yes, one) = (Leaf::Truth, Leaf::Whole(1));
+    let cases = [
+        ((0, None, yes, one), true),
+        (
+            (0, None, Leaf::Var(1, Sort::Bool), Leaf::Var(0, Sort::Int)),
+            true,
+        ),
+        ((2, None, yes, one), false),
+        ((1, None, yes, one), false),
+        ((0, Some(1), yes, one), false),
+        ((0, None, one, one), false),
+        ((0, None, Leaf::Init, one), false),
+        ((0, None, Leaf::Var(2, Sort::Bool), one), false),
+        ((0, None, Leaf::Var(0, Sort::Bool), one), false),
+        ((0, None, yes, yes), false),
     ];
-    for parts in &refused {
-        assert!(rt; chain(alloc, parts)?.is_none());
+    for (command, taken) in cases {
+        let parts = Parts { command, ..PARTS };
+        assert_eq!(rt; chain(alloc, &parts)?.is_some(), taken);
+    }
+    Ok(())
+}
+
+#[test]
+fn a_command_assigns_what_it_may_and_once(rt: HostRuntime) -> Result<(), Fail> {
+    let alloc = rt.alloc();
+    let (yes, one) = (Leaf::Truth, Leaf::Whole(1));
+    let cases = [
+        ((0, one, 1), (0, one), true),
+        ((0, yes, 1), (0, one), false),
+        ((2, yes, 1), (0, one), false),
+        ((1, yes, 1), (0, one), false),
+        ((0, one, 1), (1, yes), false),
+    ];
+    for (sets, labelled, taken) in cases {
+        let parts = Parts {
+            sets,
+            labelled,
+            ..PARTS
+        };
+        assert_eq!(rt; chain(alloc, &parts)?.is_some(), taken);
+    }
+    Ok(())
+}
+
+#[test]
+fn an_action_takes_exactly_the_modules_that_have_it(rt: HostRuntime) -> Result<(), Fail> {
+    let alloc = rt.alloc();
+    let cases: [(&[u32], bool); 6] = [
+        (&[0, 1], true),
+        (&[], false),
+        (&[0], false),
+        (&[1, 0], false),
+        (&[0, 1, 1], false),
+        (&[0, 1, 2], false),
+    ];
+    for (takes, taken) in cases {
+        let parts = Parts {
+            takes,
+            counts: (1, 1, 3, 1, 1),
+            ..PARTS
+        };
+        assert_eq!(rt; chain(alloc, &parts)?.is_some(), taken);
+    }
+    Ok(())
+}
+
+#[test]
+fn a_chain_is_within_the_limits(rt: HostRuntime) -> Result<(), Fail> {
+    let alloc = rt.alloc();
+    let cases = [
+        (
+            (
+                MOST_BRANCHES,
+                1,
+                MOST_MODULES,
+                MOST_VARIABLES - 1,
+                MOST_COMMANDS - 2,
+            ),
+            true,
+        ),
+        ((0, 1, 2, 1, 1), false),
+        ((MOST_BRANCHES + 1, 1, 2, 1, 1), false),
+        ((1, 2, 2, 1, 1), false),
+        ((1, 1, MOST_MODULES + 1, 1, 1), false),
+        ((1, 1, 2, MOST_VARIABLES, 1), false),
+        ((1, 1, 2, 1, MOST_COMMANDS - 1), false),
+    ];
+    for (counts, taken) in cases {
+        let parts = Parts { counts, ..PARTS };
+        assert_eq!(rt; chain(alloc, &parts)?.is_some(), taken);
+    }
+    for label in [Leaf::Whole(1), Leaf::Init] {
+        let parts = Parts { label, ..PARTS };
+        assert!(rt; chain(alloc, &parts)?.is_none());
     }
     Ok(())
 }
