@@ -1,4 +1,4 @@
--- Well-typed expressions: what the sort of an expression says of its parts.
+-- The sort of a level at its end.
 use Rattle.std.proofs.Common.{◌≡◌, List, [], ◌∷◌, Option, Some, refl}
 use Rattle.chain_model.specs.declared.values.Sort.{Sort}
 use Rattle.chain_model.specs.declared.expressions.Op.{Op}
