@@ -1,0 +1,10 @@
+pub mod OrderLemmas
+pub mod MemberLemmas
+pub mod PartLemmas
+pub mod StateLemmas
+pub mod ChoiceLemmas
+pub mod BranchLemmas
+pub mod StepLemmas
+pub mod DrawLemmas
+pub mod OutcomeLemmas
+pub mod TypingLemmas

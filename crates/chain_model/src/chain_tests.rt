@@ -1,0 +1,373 @@
+//! Which parts are a chain, and which paths a job.
+
+use super::*;
+use crate::limits::{MOST_BRANCHES, MOST_COMMANDS, MOST_HORIZON, MOST_MODULES, MOST_VARIABLES};
+use smc_num::{Frac, Text};
+use sqlite_items::{Boxed, Items};
+use std::alloc::{AllocError, Global};
+use std::test::Fail;
+
+/// An expression of one node.
+#[derive(Clone, Copy)]
+enum Leaf {
+    Truth,
+    Whole(i64),
+    Var(u32, Sort),
+    Init,
+}
+
+fn node(leaf: Leaf) -> Typed {
+    match leaf {
+        Leaf::Truth => Typed {
+            sort: Sort::Bool,
+            form: Form::Lit(Value::Bool(true)),
+        },
+        Leaf::Whole(n) => Typed {
+            sort: Sort::Int,
+            form: match Frac::new(n, 1) {
+                Ok(value) => Form::Lit(Value::Num(value)),
+                Err(_) => Form::IsInit,
+            },
+        },
+        Leaf::Var(number, sort) => Typed {
+            sort,
+            form: Form::Var(number),
+        },
+        Leaf::Init => Typed {
+            sort: Sort::Bool,
+            form: Form::IsInit,
+        },
+    }
+}
+
+/// The parts of a chain of two modules: a variable of the first and a global, a command of the first module, and one of
+/// each module with the only action.
+#[derive(Clone, Copy)]
+struct Parts {
+    /// The first variable's module, sort, least and greatest value, and the value that it starts with.
+    variable: (Option<u32>, Sort, i64, i64, i64),
+    /// The first command's module, action, guard and weight.
+    command: (u32, Option<u32>, Leaf, Leaf),
+    /// The first command's assignments, the second of which is of `true`.
+    sets: (u32, Leaf, u32),
+    /// The assignment of the command of the first module with the action.
+    labelled: (u32, Leaf),
+    takes: &'static [u32],
+    label: Leaf,
+    /// How many branches of the first command, actions, modules, globals, and commands of the second module there are.
+    counts: (usize, usize, usize, usize, usize),
+}
+
+const PARTS: Parts = Parts {
+    variable: (Some(0), Sort::Int, -2, 3, 1),
+    command: (0, None, Leaf::Truth, Leaf::Whole(1)),
+    sets: (0, Leaf::Var(0, Sort::Int), 1),
+    labelled: (0, Leaf::Whole(1)),
+    takes: &[0, 1],
+    label: Leaf::Var(1, Sort::Bool),
+    counts: (1, 1, 2, 1, 1),
+};
+
+fn variables(alloc: Global, parts: &Parts) -> Result<Items<Var>, AllocError> {
+    let mut vars = Items::new(alloc);
+    vars.push(Var {
+        name: Text::from_bytes(alloc, b"x")?,
+        owner: parts.variable.0,
+        sort: parts.variable.1,
+        lo: parts.variable.2,
+        hi: parts.variable.3,
+        init: parts.variable.4,
+    })?;
+    for _ in 0..parts.counts.3 {
+        vars.push(Var {
+            name: Text::from_bytes(alloc, b"g")?,
+            owner: None,
+            sort: Sort::Bool,
+            lo: 0,
+            hi: 1,
+            init: 1,
+        })?;
+    }
+    Ok(vars)
+}
+
+fn first_command(alloc: Global, parts: &Parts) -> Result<Act, AllocError> {
+    let mut branches = Items::new(alloc);
+    for _ in 0..parts.counts.0 {
+        let mut sets = Items::new(alloc);
+        sets.push((parts.sets.0, node(parts.sets.1)))?;
+        sets.push((parts.sets.2, node(Leaf::Truth)))?;
+        branches.push(Arm {
+            weight: node(parts.command.3),
+            sets,
+        })?;
+    }
+    Ok(Act {
+        module: parts.command.0,
+        action: parts.command.1,
+        guard: node(parts.command.2),
+        branches,
+    })
+}
+
+fn labelled_command(
+    alloc: Global,
+    module: u32,
+    sets: Items<(u32, Typed)>,
+) -> Result<Act, AllocError> {
+    let mut branches = Items::new(alloc);
+    branches.push(Arm {
+        weight: node(Leaf::Whole(1)),
+        sets,
+    })?;
+    Ok(Act {
+        module,
+        action: Some(0),
+        guard: node(Leaf::Truth),
+        branches,
+    })
+}
+
+fn commands(alloc: Global, parts: &Parts) -> Result<Items<Act>, AllocError> {
+    let mut sets = Items::new(alloc);
+    sets.push((parts.labelled.0, node(parts.labelled.1)))?;
+    let mut commands = Items::new(alloc);
+    commands.push(first_command(alloc, parts)?)?;
+    commands.push(labelled_command(alloc, 0, sets)?)?;
+    for _ in 0..parts.counts.4 {
+        commands.push(labelled_command(alloc, 1, Items::new(alloc))?)?;
+    }
+    Ok(commands)
+}
+
+fn actions(alloc: Global, parts: &Parts) -> Result<Items<Action>, AllocError> {
+    let mut actions = Items::new(alloc);
+    for _ in 0..parts.counts.1 {
+        actions.push(Action {
+            name: Text::from_bytes(alloc, b"a")?,
+            takes: Items::from_slice(alloc, parts.takes)?,
+        })?;
+    }
+    Ok(actions)
+}
+
+fn chain(alloc: Global, parts: &Parts) -> Result<Option<Chain>, AllocError> {
+    let mut modules = Items::new(alloc);
+    for _ in 0..parts.counts.2 {
+        modules.push(Text::from_bytes(alloc, b"m")?)?;
+    }
+    let mut labels = Items::new(alloc);
+    labels.push((Text::from_bytes(alloc, b"l")?, node(parts.label)))?;
+    let vars = variables(alloc, parts)?;
+    let actions = actions(alloc, parts)?;
+    let commands = commands(alloc, parts)?;
+    Ok(Chain::new(vars, actions, modules, commands, labels))
+}
+
+const GREATEST: i64 = 4_611_686_018_427_387_903;
+
+#[test]
+fn a_variable_starts_in_its_range_and_has_a_module(rt: HostRuntime) -> Result<(), Fail> {
+    let alloc = rt.alloc();
+    let cases = [
+        ((Some(0), Sort::Int, -2, 3, 1), true),
+        ((Some(0), Sort::Int, -GREATEST, GREATEST, -GREATEST), true),
+        ((Some(0), Sort::Double, -2, 3, 1), false),
+        ((Some(2), Sort::Int, -2, 3, 1), false),
+        ((Some(0), Sort::Int, -2, 3, 4), false),
+        ((Some(0), Sort::Int, -2, 3, -3), false),
+        ((Some(0), Sort::Int, -2, GREATEST + 1, 1), false),
+        ((Some(0), Sort::Int, -GREATEST - 1, 3, 1), false),
+        ((Some(0), Sort::Bool, 0, 1, 1), false),
+    ];
+    for (variable, taken) in cases {
+        let parts = Parts { variable, ..PARTS };
+        assert_eq!(rt; chain(alloc, &parts)?.is_some(), taken);
+    }
+    Ok(())
+}
+
+#[test]
+fn a_command_has_a_module_an_action_a_guard_and_weights(rt: HostRuntime) -> Result<(), Fail> {
+    let alloc = rt.alloc();
+    let (yes, one) = (Leaf::Truth, Leaf::Whole(1));
+    let cases = [
+        ((0, None, yes, one), true),
+        (
+            (0, None, Leaf::Var(1, Sort::Bool), Leaf::Var(0, Sort::Int)),
+            true,
+        ),
+        ((2, None, yes, one), false),
+        ((1, None, yes, one), false),
+        ((0, Some(1), yes, one), false),
+        ((0, None, one, one), false),
+        ((0, None, Leaf::Init, one), false),
+        ((0, None, Leaf::Var(2, Sort::Bool), one), false),
+        ((0, None, Leaf::Var(0, Sort::Bool), one), false),
+        ((0, None, yes, yes), false),
+    ];
+    for (command, taken) in cases {
+        let parts = Parts { command, ..PARTS };
+        assert_eq!(rt; chain(alloc, &parts)?.is_some(), taken);
+    }
+    Ok(())
+}
+
+#[test]
+fn a_command_assigns_what_it_may_and_once(rt: HostRuntime) -> Result<(), Fail> {
+    let alloc = rt.alloc();
+    let (yes, one) = (Leaf::Truth, Leaf::Whole(1));
+    let cases = [
+        ((0, one, 1), (0, one), true),
+        ((0, yes, 1), (0, one), false),
+        ((2, yes, 1), (0, one), false),
+        ((1, yes, 1), (0, one), false),
+        ((0, one, 1), (1, yes), false),
+    ];
+    for (sets, labelled, taken) in cases {
+        let parts = Parts {
+            sets,
+            labelled,
+            ..PARTS
+        };
+        assert_eq!(rt; chain(alloc, &parts)?.is_some(), taken);
+    }
+    Ok(())
+}
+
+#[test]
+fn an_action_takes_exactly_the_modules_that_have_it(rt: HostRuntime) -> Result<(), Fail> {
+    let alloc = rt.alloc();
+    let cases: [(&[u32], bool); 6] = [
+        (&[0, 1], true),
+        (&[], false),
+        (&[0], false),
+        (&[1, 0], false),
+        (&[0, 1, 1], false),
+        (&[0, 1, 2], false),
+    ];
+    for (takes, taken) in cases {
+        let parts = Parts {
+            takes,
+            counts: (1, 1, 3, 1, 1),
+            ..PARTS
+        };
+        assert_eq!(rt; chain(alloc, &parts)?.is_some(), taken);
+    }
+    Ok(())
+}
+
+#[test]
+fn a_chain_is_within_the_limits(rt: HostRuntime) -> Result<(), Fail> {
+    let alloc = rt.alloc();
+    let cases = [
+        (
+            (
+                MOST_BRANCHES,
+                1,
+                MOST_MODULES,
+                MOST_VARIABLES - 1,
+                MOST_COMMANDS - 2,
+            ),
+            true,
+        ),
+        ((0, 1, 2, 1, 1), false),
+        ((MOST_BRANCHES + 1, 1, 2, 1, 1), false),
+        ((1, 2, 2, 1, 1), false),
+        ((1, 1, MOST_MODULES + 1, 1, 1), false),
+        ((1, 1, 2, MOST_VARIABLES, 1), false),
+        ((1, 1, 2, 1, MOST_COMMANDS - 1), false),
+    ];
+    for (counts, taken) in cases {
+        let parts = Parts { counts, ..PARTS };
+        assert_eq!(rt; chain(alloc, &parts)?.is_some(), taken);
+    }
+    for label in [Leaf::Whole(1), Leaf::Init] {
+        let parts = Parts { label, ..PARTS };
+        assert!(rt; chain(alloc, &parts)?.is_none());
+    }
+    Ok(())
+}
+
+#[test]
+fn a_chain_has_an_initial_state_and_jobs(rt: HostRuntime) -> Result<(), Fail> {
+    let alloc = rt.alloc();
+    let cases = [
+        (PathKind::Next, Leaf::Init, true),
+        (
+            PathKind::Until(MOST_HORIZON),
+            Leaf::Var(1, Sort::Bool),
+            true,
+        ),
+        (PathKind::Globally(0), Leaf::Truth, true),
+        (PathKind::Finally(MOST_HORIZON + 1), Leaf::Truth, false),
+        (PathKind::Finally(1), Leaf::Whole(1), false),
+        (PathKind::Finally(1), Leaf::Var(2, Sort::Bool), false),
+    ];
+    for (kind, second, made) in cases {
+        let Some(chain) = chain(alloc, &PARTS)? else {
+            panic!(rt; "the parts are a chain");
+        };
+        assert_eq!(rt; initial(alloc, &chain)?.as_slice(), [1, 1].as_slice());
+        let path = Path {
+            kind,
+            first: node(Leaf::Truth),
+            second: node(second),
+        };
+        assert_eq!(rt; Job::new(chain, path, 1).is_some(), made);
+    }
+    Ok(())
+}
+
+/// The deepest expression that a text within the limits has: 64 signs `-`, 64 times 64 signs `!` and 1,024
+/// conditionals. The parentheses between them have no node.
+fn deepest(alloc: Global) -> Result<Typed, AllocError> {
+    let mut tree = node(Leaf::Var(0, Sort::Int));
+    for _ in 0..64 {
+        tree = Typed {
+            sort: Sort::Int,
+            form: Form::Minus(Boxed::new(alloc, tree)?),
+        };
+    }
+    let mut operands = Items::new(alloc);
+    operands.push(tree)?;
+    operands.push(node(Leaf::Whole(0)))?;
+    let mut operators = Items::new(alloc);
+    operators.push(Op::Eq)?;
+    tree = Typed {
+        sort: Sort::Bool,
+        form: Form::Level(operands, operators),
+    };
+    for _ in 0..64 * 64 {
+        tree = Typed {
+            sort: Sort::Bool,
+            form: Form::Not(Boxed::new(alloc, tree)?),
+        };
+    }
+    for _ in 0..1_024 {
+        tree = Typed {
+            sort: Sort::Bool,
+            form: Form::If(
+                Boxed::new(alloc, node(Leaf::Truth))?,
+                Boxed::new(alloc, node(Leaf::Truth))?,
+                Boxed::new(alloc, tree)?,
+            ),
+        };
+    }
+    Ok(tree)
+}
+
+#[test]
+fn the_deepest_expression_is_typed_and_dropped(rt: HostRuntime) -> Result<(), Fail> {
+    let alloc = rt.alloc();
+    let path = Path {
+        kind: PathKind::Next,
+        first: node(Leaf::Truth),
+        second: deepest(alloc)?,
+    };
+    let Some(chain) = chain(alloc, &PARTS)? else {
+        panic!(rt; "the parts are a chain");
+    };
+    assert!(rt; Job::new(chain, path, 1).is_some());
+    Ok(())
+}
