@@ -1,0 +1,23 @@
+//! When a run of traces ends. The outcomes of the traces are admitted one by one, in the order of the
+//! traces' numbers, and observers see each that was admitted.
+#![tactic(auto)]
+
+mod batches;
+mod code;
+mod end;
+mod goal;
+mod line;
+mod longest_run;
+mod observer;
+mod recorder;
+mod seat;
+mod tally;
+
+pub use batches::Batches;
+pub use end::{Cause, End};
+pub use goal::{Goal, Rule};
+pub use line::Line;
+pub use longest_run::LongestRun;
+pub use observer::{Observer, Stay};
+pub use recorder::Recorder;
+pub use tally::Tally;
