@@ -1,0 +1,14 @@
+pub mod Limits
+pub mod Sorts
+pub mod Typing
+pub mod Chain
+pub mod States
+pub mod Paths
+pub mod Results
+pub mod Values
+pub mod Choices
+pub mod Labels
+pub mod Step
+pub mod Trace
+pub mod Settling
+pub mod Outcome
