@@ -40,7 +40,7 @@ no_earlier seen_at goal counts a b one p q h =
     let is : slice_get q.before n ≡ Some truth = slice_get-get_or q.before n true h in
     let front : take n q.before ≡ p.before = prefix_of_agreed p.before q.before (omega arith) (befores_agree seen_at p.before q.before one p.seen q.seen) in
     let last : p.last ≡ Some truth = one n p.last (Some truth) p.last_seen (q.seen n truth is) in
-    let ends : end_with goal (counts_after counts (take n q.before)) (Some truth) ≡ Some a = rw (front, ← last) p.ends in
+    let ends : end_with goal (counts_after counts (take n q.before)) (Some truth) ≡ Some a = rw front (rw last at p.ends) in
     not_within goal counts q.before n truth a q.goes_on h is ends
 
 -- a run has at most one end
@@ -67,11 +67,23 @@ is_the_end goal counts seen found p end = (
   (λ q. ap (λ v. Some v) (ends_once _ goal counts found end (sees_one_in seen) p q)),
 )
 
+-- where one of some traces ends a run, the run does not go on after all of them
+no_end_among : (goal : Goal) (counts : Counts) (truths : List Bool) (end : End) → GoesOn goal counts truths → EndsAmong goal counts (map (λ t. Some t) truths) end → ⊥
+no_end_among goal counts truths end goes_on q =
+    let n = length q.before in
+    let within : n < length truths = omega (arith, slice_get_within (map (λ t. Some t) truths) n q.last q.last_seen, length-map truths (λ t. Some t)) in
+    let truth = get_or truths n true in
+    let is : slice_get truths n ≡ Some truth = slice_get-get_or truths n true within in
+    let mapped : slice_get (map (λ t. Some t) truths) n ≡ Some (Some truth) = slice_get-map (λ t. Some t) truths n ∙ ap (option_map (λ t. Some t)) is in
+    let last : q.last ≡ Some truth = let both : Some q.last ≡ Some (Some truth) = sym q.last_seen ∙ mapped in cc in
+    let front : take n truths ≡ q.before = prefix_of_agreed q.before truths (omega arith) (record { at = λ k x y e f.
+      let here : Some (Some x) ≡ Some (Some y) = sym (q.seen k x e) ∙ (slice_get-map (λ t. Some t) truths k ∙ ap (option_map (λ t. Some t)) f) in cc }) in
+    let ends : end_with goal (counts_after counts (take n truths)) (Some truth) ≡ Some end = rw front (rw last at q.ends) in
+    not_within goal counts truths n truth end goes_on within is ends
+
 -- a run that goes past these traces has no end among them
 pub has_no_end : (goal : Goal) (counts after : Counts) (truths : List Bool) → GoesPast goal counts truths after → (end : End) → (None ≡ Some end) ↔ EndsAmong goal counts (map (λ t. Some t) truths) end
 has_no_end goal counts after truths past end = (
   (λ same. cc),
   (λ q. absurd (no_end_among goal counts truths end past.goes_on q)),
-) where
-  no_end_among : (goal : Goal) (counts : Counts) (truths : List Bool) (end : End) → GoesOn goal counts truths → EndsAmong goal counts (map (λ t. Some t) truths) end → ⊥
-  no_end_among goal counts truths end goes_on q = ?
+)

@@ -4,3 +4,4 @@ pub mod CodeLemmas
 pub mod RunLemmas
 pub mod EndLemmas
 pub mod LineLemmas
+pub mod SeatLemmas

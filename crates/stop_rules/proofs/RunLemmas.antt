@@ -1,6 +1,6 @@
 -- How a run goes on, and how it ends.
 use Rattle.std.proofs.Common.{◌≡◌, ℕ, zero, suc, ◌+◌, ◌<◌, ◌≤◌, inl, inr, Bool, true, false, not, List, [], ◌∷◌, ◌++◌, Option, Some, None, refl, ap, sym, ◌∙◌, arith, length, slice_get, take, map, option_map, count_by, length-append, nat_lt, rules, add-zero, add_assoc}
-use Rattle.std.proofs.lemmas.List.{take_all, take-append-le}
+use Rattle.std.proofs.lemmas.List.{take_all, take-append-le, append-nil}
 use Rattle.std.proofs.lemmas.List.Sums.{sum_by-append}
 use Rattle.std.proofs.Math.Seq.{take-append-add}
 use Rattle.stop_rules.specs.declared.end.Cause.{Cause}
@@ -23,15 +23,18 @@ equal_counts a b d f = λ i. record { d = d i; f = f i }
 
 -- the counts after no trace
 pub counts_after-nil : (counts : Counts) → counts_after counts [] ≡ counts
+unfolding counts_after
 counts_after-nil counts = equal_counts _ _ (omega arith) (omega arith)
 
 -- the counts after more traces
 pub counts_after-append : (counts : Counts) (first more : List Bool) → counts_after counts (first ++ more) ≡ counts_after (counts_after counts first) more
+unfolding counts_after
 counts_after-append counts first more =
     equal_counts _ _ (let e = count_by-append (λ truth. truth) first more in omega arith) (let e = count_by-append not first more in omega arith)
 
 -- the counts after one trace
 pub counts_after-one : (counts : Counts) (truth : Bool) → counts_after counts (truth ∷ []) ≡ counted truth counts
+unfolding counts_after
 counts_after-one counts true = equal_counts _ _ refl (omega arith)
 counts_after-one counts false = equal_counts _ _ (omega arith) refl
 
@@ -107,7 +110,7 @@ ends_with_fault goal counts now truths rest past = record {
   goes_on = past.goes_on;
   last = None;
   last_seen = get_next (λ t. Some t) truths None rest;
-  ends = rw (← past.counted) refl;
+  ends = ap (λ (v : Counts). Some (end_at v cause.Fault)) (sym past.counted);
 }
 
 -- the counts with the last trace are those of the end
@@ -125,6 +128,12 @@ pub ends_at_fault : (goal : Goal) (counts now : Counts) (flip : Bool) (code coun
 ends_at_fault goal counts now flip code count h past =
     let test : nat_lt (given_in code) count ≡ true = search rules in
     rw test (ends_with_fault goal counts now (truths_in flip code) [] past)
+
+-- a block in which no trace faults has nothing behind its truth values
+pub seen_of_whole : (flip : Bool) (code count : ℕ) → count ≤ given_in code → seen_in flip code count ≡ map (λ t. Some t) (truths_in flip code)
+seen_of_whole flip code count h =
+    let test : nat_lt (given_in code) count ≡ false = search rules in
+    rw test (append-nil (map (λ t. Some t) (truths_in flip code)))
 
 -- a run that goes past some traces, and then past more
 pub past-append : (goal : Goal) (counts now after : Counts) (first more : List Bool) → GoesPast goal counts first now → GoesPast goal now more after → GoesPast goal counts (first ++ more) after

@@ -44,7 +44,7 @@ counted true counts = record { d = counts.d + 1; f = counts.f }
 counted false counts = record { d = counts.d; f = counts.f + 1 }
 
 -- the counts after these traces: as many more successes as are true, and as many more failures as are false
-abbrev pub counts_after : Counts → List Bool → Counts
+unfoldable pub counts_after : Counts → List Bool → Counts
 counts_after counts truths = record { d = counts.d + count_by (λ truth. truth) truths; f = counts.f + count_by not truths }
 
 -- the end with this cause and these counts

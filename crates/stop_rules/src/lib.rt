@@ -2,6 +2,7 @@
 //! traces' numbers, and observers see each that was admitted.
 #![tactic(auto)]
 
+mod admit;
 mod batches;
 mod code;
 mod end;
@@ -13,6 +14,7 @@ mod recorder;
 mod seat;
 mod tally;
 
+pub use admit::Admit;
 pub use batches::Batches;
 pub use end::{Cause, End};
 pub use goal::{Goal, Rule};

@@ -43,6 +43,14 @@ impl Tally {
         (self.d, self.f)
     }
 
+    /// How many outcomes were admitted.
+    pub(crate) fn admitted(&self) -> u64
+        requires { self.now.d + self.now.f < 2 ^ 64 }
+        ensures { result ≡ self.now.d + self.now.f }
+    {
+        self.d + self.f
+    }
+
     /// Admits the outcomes of a block of `count` traces, in order, up to the one that ends the run. Answers
     /// the end where the run ends among them.
     pub fn feed_code(&mut self, goal: &Goal, code: u64, count: u32) -> Option<End>
