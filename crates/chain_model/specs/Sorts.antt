@@ -1,5 +1,5 @@
 -- The table of forms: which sorts each form takes, and of which sort it is then (the PRISM language, with exact numbers).
-use Rattle.std.specs.Prelude.{ℕ, ◌==◌, ◌&&◌, nat_lt, Bool, true, false, List, [], ◌∷◌, Option, Some, None, option_map, if◌then◌else◌}
+use Rattle.std.specs.Prelude.{ℕ, ◌==◌, ◌&&◌, nat_lt, Bool, true, false, List, [], ◌∷◌, Option, Some, None, option_map, length, if◌then◌else◌}
 use Rattle.std.specs.List.{list_all}
 use Rattle.chain_model.specs.declared.values.Sort.{Sort}
 use Rattle.chain_model.specs.declared.values.Sort.TheVariants as sort
@@ -84,18 +84,23 @@ precedence_of o.Div = 7
 abbrev pub may_follow : Op → Op → Bool
 may_follow first op = nat_lt 0 (precedence_of first) && precedence_of first == precedence_of op
 
--- the sort of a chain's operands joined from the left, one operator before each operand but the first
-abbrev pub links_sort : Sort → List (Option Sort) → List Op → Option Sort
-links_sort a [] [] = Some a
-links_sort a (part ∷ parts) (op ∷ ops) = do
-  b ← part
-  joined ← result_sort op a b
-  links_sort joined parts ops
-links_sort a _ _ = None
+-- the sort of an operator's result, where its right operand has a sort
+abbrev pub link_sort : Op → Sort → Option Sort → Option Sort
+link_sort op a part = part >>= result_sort op a
 
--- the sort of a level of two or more operands, all of whose operators are of one line of the grammar
+-- the sort of a chain's operands joined from the left, with the operators between them
+abbrev pub links_sort : Sort → List (Option Sort) → List Op → Option Sort
+links_sort a [] ops = Some a
+links_sort a (part ∷ parts) [] = Some a
+links_sort a (part ∷ parts) (op ∷ ops) = link_sort op a part >>= λ joined. links_sort joined parts ops
+
+-- the operators of a level are one fewer than its operands, and all of one line of the grammar
+abbrev pub is_level : ℕ → Op → List Op → Bool
+is_level others first ops = others == length (first ∷ ops) && list_all (may_follow first) ops
+
+-- the sort of a level of two or more operands
 abbrev pub level_sort : List (Option Sort) → List Op → Option Sort
-level_sort (part ∷ parts) (op ∷ ops) = if list_all (may_follow op) ops then part >>= (λ a. links_sort a parts (op ∷ ops)) else None
+level_sort (part ∷ parts) (op ∷ ops) = if is_level (length parts) op ops then part >>= (λ a. links_sort a parts (op ∷ ops)) else None
 level_sort _ _ = None
 
 -- the sort of the least or the greatest of numbers
@@ -120,15 +125,28 @@ abbrev pub remainder_sort : Sort → Sort → Option Sort
 remainder_sort sort.Int sort.Int = Some sort.Int
 remainder_sort _ _ = None
 
+-- the sort of the least or the greatest of two numbers or more
+abbrev pub extremes_sort : List (Option Sort) → Option Sort
+extremes_sort (a ∷ (b ∷ parts)) = a >>= (λ s. extreme_sort s (b ∷ parts))
+extremes_sort _ = None
+
+-- the sort of the only part, and the sorts of both parts
+abbrev pub only_sort : List (Option Sort) → Option Sort
+only_sort (a ∷ []) = a
+only_sort _ = None
+
+abbrev pub both_sorts : List (Option Sort) → Option (Sort × Sort)
+both_sorts (a ∷ (b ∷ [])) = a >>= λ s. b >>= λ t. Some (s, t)
+both_sorts _ = None
+
 -- the sort of a call: `min` and `max` take two parts or more, `floor` and `ceil` one, `pow` and `mod` two
 abbrev pub call_sort : Func → List (Option Sort) → Option Sort
-call_sort f.Min (a ∷ (b ∷ parts)) = a >>= (λ s. extreme_sort s (b ∷ parts))
-call_sort f.Max (a ∷ (b ∷ parts)) = a >>= (λ s. extreme_sort s (b ∷ parts))
-call_sort f.Floor (a ∷ []) = a >>= rounded_sort
-call_sort f.Ceil (a ∷ []) = a >>= rounded_sort
-call_sort f.Pow (a ∷ (k ∷ [])) = a >>= (λ s. k >>= power_sort s)
-call_sort f.Mod (i ∷ (n ∷ [])) = i >>= (λ s. n >>= remainder_sort s)
-call_sort _ _ = None
+call_sort f.Min parts = extremes_sort parts
+call_sort f.Max parts = extremes_sort parts
+call_sort f.Floor parts = only_sort parts >>= rounded_sort
+call_sort f.Ceil parts = only_sort parts >>= rounded_sort
+call_sort f.Pow parts = both_sorts parts >>= λ s. power_sort s.0 s.1
+call_sort f.Mod parts = both_sorts parts >>= λ s. remainder_sort s.0 s.1
 
 -- the sort of `!`, and of unary `-`
 abbrev pub negation_sort : Sort → Option Sort

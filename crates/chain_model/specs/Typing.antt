@@ -28,20 +28,32 @@ abbrev pub label_sort : Labels → Option Sort
 label_sort Allowed = Some sort.Bool
 label_sort Refused = None
 
+-- the sort of a variable, by its number
+abbrev pub variable_sort : List Var → ℕ → Option Sort
+variable_sort vars number = option_map (λ var. var.sort) (slice_get vars number)
+
+-- the sort of a conditional, where each of its parts has one
+abbrev pub if_sort : Option Sort → Option Sort → Option Sort → Option Sort
+if_sort c x y = do
+  condition ← c
+  first ← x
+  second ← y
+  conditional_sort condition first second
+
 -- the sort of one node by those of its parts; a literal is of its declared sort, where its value is
 abbrev pub form_sort : List Var → Labels → Form-F (Sort → Option Sort) (Option Sort) → Sort → Option Sort
 form_sort vars labels (top.Lit value) s = if is_of_sort s value then Some s else None
-form_sort vars labels (top.Var number) s = option_map (λ var. var.sort) (slice_get vars number)
+form_sort vars labels (top.Var number) s = variable_sort vars number
 form_sort vars labels (top.Call func parts) s = call_sort func parts
 form_sort vars labels (top.Not x) s = x >>= negation_sort
 form_sort vars labels (top.Minus x) s = x >>= opposite_sort
 form_sort vars labels (top.Level parts ops) s = level_sort parts ops
-form_sort vars labels (top.If c x y) s = c >>= λ a. x >>= λ b. y >>= λ d. conditional_sort a b d
+form_sort vars labels (top.If c x y) s = if_sort c x y
 form_sort vars labels top.IsInit s = label_sort labels
 form_sort vars labels top.IsDeadlock s = label_sort labels
 
 -- the sort of an expression in which each node is of the sort that the table gives it; others have none
-unfoldable pub sort_of : List Var → Labels → Typed → Option Sort
+abbrev pub sort_of : List Var → Labels → Typed → Option Sort
 sort_of vars labels = fold-Typed (Sort → Option Sort) (Option Sort) (form_sort vars labels) (λ t. as_declared t.sort (t.form t.sort))
 
 -- an expression is well typed, and of this sort

@@ -4,13 +4,16 @@
 //! those definitions are the public functions of `laws`.
 #![tactic(auto)]
 
+mod building;
 mod chain;
 mod constants;
 mod expressions;
 mod job;
 pub mod limits;
 mod outcome;
+mod sorts;
 mod steps;
+mod typing;
 mod values;
 
 pub use chain::{Act, Action, Arm, Chain, Var};
@@ -18,5 +21,10 @@ pub use constants::Given;
 pub use expressions::{Form, Func, Labels, Op, Typed};
 pub use job::{Claim, Job, Path, PathKind};
 pub use outcome::{Outcome, TraceFault};
+pub use sorts::{
+    common_sort, conditional_sort, is_number, is_of_sort, may_follow, negation_sort, number_sort, opposite_sort,
+    power_sort, remainder_sort, result_sort, rounded_sort,
+};
 pub use steps::{Choice, Taken};
+pub use typing::sort_of;
 pub use values::{LabelValues, Sort, Value};
