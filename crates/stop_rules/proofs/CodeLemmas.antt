@@ -4,7 +4,8 @@ use Rattle.std.proofs.lemmas.List.{length-map}
 use Rattle.std.proofs.lemmas.Option.{slice_get-map}
 use Rattle.std.proofs.Math.Nat.{div-one, div-div-eq-div-mul, pow-succ'}
 use mathlib.Core.Bool.{beq}
-use Rattle.stop_rules.specs.Codes.{is_success, bits_of}
+use Rattle.stop_rules.specs.Seen.{is_success}
+use Rattle.stop_rules.specs.Codes.{bits_of}
 
 -- the bit at a position
 pub bit_at : (count n k : ℕ) → k < count → slice_get (bits_of count n) k ≡ Some ((n / 2 ^ k % 2) == 1)

@@ -1,5 +1,7 @@
 -- Codes of blocks: what is seen of up to 32 traces, in one number of 64 bits.
-use Rattle.std.specs.Prelude.{◌==◌, ℕ, zero, suc, ◌+◌, ◌*◌, ◌/◌, ◌%◌, ◌^◌, ◌<◌, ◌≤◌, Bool, true, false, not, List, [], ◌∷◌, ◌++◌, Option, Some, None, if◌then◌else◌, length, map, nat_lt}
+use Rattle.std.specs.Prelude.{◌≡◌, ◌==◌, ℕ, zero, suc, ◌+◌, ◌*◌, ◌/◌, ◌%◌, ◌^◌, ◌<◌, ◌≤◌, ◌⊎◌, Bool, true, false, List, [], ◌∷◌, ◌++◌, Option, Some, None, if◌then◌else◌, length, map, nat_lt}
+use Rattle.chain_model.specs.declared.outcome.Outcome.{Outcome}
+use Rattle.stop_rules.specs.Seen.{is_success, SeenAt, AreSeen}
 
 -- the number with these bits, the lowest first
 abbrev pub number_of : List Bool → ℕ
@@ -20,11 +22,6 @@ abbrev pub bits_of : ℕ → ℕ → List Bool
 bits_of zero n = []
 bits_of (suc count) n = ((n % 2) == 1) ∷ bits_of count (n / 2)
 
--- whether a trace of this raw truth value succeeds
-abbrev pub is_success : Bool → Bool → Bool
-is_success true raw = not raw
-is_success false raw = raw
-
 -- whether each of the traces before the first fault succeeds
 abbrev pub truths_in : Bool → ℕ → List Bool
 truths_in flip code = map (is_success flip) (bits_of (given_in code) code)
@@ -39,3 +36,14 @@ pub record IsCode (code count : ℕ) : Type 0 where
   pub few : count ≤ 32
   pub marked : 2 ^ 63 ≤ code
   pub given : given_in code ≤ count
+
+-- where the raw truth values of a block of so many traces stop: at the end of the block, or at the first fault
+abbrev pub StopsAt : (ℕ → Outcome → Type 0) → ℕ → ℕ → ℕ → Type 0
+StopsAt outcome_at first count given = (given ≡ count) ⊎ ((given < count) × SeenAt outcome_at false (first + given) None)
+
+-- the code of a block of so many traces from the first one on
+pub record IsBlockCode (outcome_at : ℕ → Outcome → Type 0) (first count code : ℕ) : Type 0 where
+  pub truths : List Bool
+  pub seen : AreSeen outcome_at false first (map (λ truth. Some truth) truths)
+  pub stops : StopsAt outcome_at first count (length truths)
+  pub is : code ≡ code_of truths

@@ -1,0 +1,71 @@
+//! Laws of the definitions in `specs/`. Each is the contract of a function that does nothing when called.
+
+ghost use Rattle.std.specs.Prelude.{◌≡◌, ℕ, ◌+◌, ◌^◌, ◌<◌, ◌≤◌, ◌++◌, Bool, List, Option, Some, map, length};
+ghost use Rattle.chain_model.specs.declared.job.Job.{Job};
+ghost use Rattle.chain_model.specs.declared.outcome.Outcome.{Outcome};
+ghost use Rattle.chain_model.specs.Outcome.{IsOutcome};
+ghost use Rattle.stop_rules.specs.declared.end.End.{End};
+ghost use Rattle.stop_rules.specs.declared.goal.Goal.{Goal};
+ghost use Rattle.stop_rules.specs.Decision.{Counts};
+ghost use Rattle.stop_rules.specs.Seen.{AreSeen};
+ghost use Rattle.stop_rules.specs.Run.{EndsFrom, EndsRun, EndsAmong, GoesPast, Reaches};
+ghost use Rattle.stop_rules.specs.Codes.{code_of, given_in, bits_of, truths_in, seen_in, IsCode, IsBlockCode};
+
+/// Outcomes of numbered traces: each trace has one at most.
+pub trait Outcomes {
+    // The trace of this number has this outcome.
+    ghost outcome_at: { Self → ℕ → Outcome → Type 0 };
+
+    // It has no other.
+    ghost one: { (all : Self) (trace : ℕ) (a b : Outcome) → outcome_at all trace a → outcome_at all trace b → a ≡ b };
+}
+
+/// Law: over any outcomes a run has at most one end, and a block at most one code.
+pub fn one_end_of<O: Outcomes>()
+    ensures end { (all : O) (goal : Goal) (d f : ℕ) (a b : End)
+        → EndsFrom (O.outcome_at all) goal d f a → EndsFrom (O.outcome_at all) goal d f b → a ≡ b }
+    ensures code { (all : O) (first count a b : ℕ)
+        → IsBlockCode (O.outcome_at all) first count a → IsBlockCode (O.outcome_at all) first count b → a ≡ b }
+{}
+
+/// Law: what goes past some traces, or ends among them, does so after others that a run goes past.
+pub fn one_run()
+    ensures past { (goal : Goal) (counts now after : Counts) (first more : List Bool)
+        → GoesPast goal counts first now → GoesPast goal now more after → GoesPast goal counts (first ++ more) after }
+    ensures ended { (goal : Goal) (counts now : Counts) (first : List Bool) (seen : List (Option Bool)) (end : End)
+        → GoesPast goal counts first now → EndsAmong goal now seen end
+        → EndsAmong goal counts (map (λ truth. Some truth) first ++ seen) end }
+{}
+
+/// Law: a run over any outcomes that reaches some counts, and ends or goes on from there, does so from where it began.
+pub fn one_run_of<O: Outcomes>()
+    ensures reached { (all : O) (goal : Goal) (d f : ℕ) (now after : Counts)
+        → Reaches (O.outcome_at all) goal d f now → Reaches (O.outcome_at all) goal now.d now.f after
+        → Reaches (O.outcome_at all) goal d f after }
+    ensures ended { (all : O) (goal : Goal) (d f : ℕ) (now : Counts) (end : End)
+        → Reaches (O.outcome_at all) goal d f now → EndsFrom (O.outcome_at all) goal now.d now.f end
+        → EndsFrom (O.outcome_at all) goal d f end }
+    ensures seen { (all : O) (goal : Goal) (d f : ℕ) (seen : List (Option Bool)) (end : End)
+        → AreSeen (O.outcome_at all) goal.flip (d + f) seen → EndsAmong goal (record { d = d; f = f }) seen end
+        → EndsFrom (O.outcome_at all) goal d f end }
+{}
+
+/// Law: a code tells the raw truth values that it was made of, and fits 64 bits.
+pub fn code_law()
+    ensures code { (truths : List Bool) (count : ℕ) → 1 ≤ count → count ≤ 32 → length truths ≤ count
+        → IsCode (code_of truths) count }
+    ensures given { (truths : List Bool) → length truths ≤ 32 → given_in (code_of truths) ≡ length truths }
+    ensures bits { (truths : List Bool) → length truths ≤ 32 → bits_of (length truths) (code_of truths) ≡ truths }
+    ensures narrow { (truths : List Bool) → length truths ≤ 32 → code_of truths < 2 ^ 64 }
+{}
+
+/// Law: what is read from the code of a block is seen of its traces.
+pub fn block_law_of<O: Outcomes>()
+    ensures code { (all : O) (first count code : ℕ) → 1 ≤ count → count ≤ 32
+        → IsBlockCode (O.outcome_at all) first count code → IsCode code count }
+    ensures seen { (all : O) (flip : Bool) (first count code : ℕ) → count ≤ 32
+        → IsBlockCode (O.outcome_at all) first count code → AreSeen (O.outcome_at all) flip first (seen_in flip code count) }
+    ensures reached { (all : O) (goal : Goal) (d f count code : ℕ) (after : Counts) → count ≤ 32
+        → IsBlockCode (O.outcome_at all) (d + f) count code → GoesPast goal (record { d = d; f = f }) (truths_in goal.flip code) after
+        → Reaches (O.outcome_at all) goal d f after }
+{}
