@@ -8,3 +8,4 @@ pub mod BlockLemmas
 pub mod ReachLemmas
 pub mod LineLemmas
 pub mod SeatLemmas
+pub mod ObservationLemmas

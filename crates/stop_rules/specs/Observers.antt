@@ -10,6 +10,23 @@ pub data Observation : Type 0 where
   batches : (size seen trues full least most : ℕ) → Observation
   recorder : (most : ℕ) (bits : List Bool) → Observation
 
+-- a bit as a number
+abbrev pub bit_of : Bool → ℕ
+bit_of true = 1
+bit_of false = 0
+
+-- the number of an observer's kind
+abbrev pub kind_of : Observation → ℕ
+kind_of (longest_run run best) = 0
+kind_of (batches size seen trues full least most) = 1
+kind_of (recorder most bits) = 2
+
+-- an observer's state as a list of whole numbers, which with the kind tells what it has seen
+abbrev pub state_of : Observation → List ℕ
+state_of (longest_run run best) = run ∷ best ∷ []
+state_of (batches size seen trues full least most) = size ∷ seen ∷ trues ∷ full ∷ least ∷ most ∷ []
+state_of (recorder most bits) = most ∷ map bit_of bits
+
 -- one more, up to the last number of 64 bits
 abbrev pub one_more : ℕ → ℕ
 one_more n = min (n + 1) (2 ^ 64 - 1)
