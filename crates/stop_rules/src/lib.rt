@@ -28,3 +28,6 @@ pub use longest_run::LongestRun;
 pub use observer::{Observer, Stay};
 pub use recorder::Recorder;
 pub use tally::Tally;
+
+#[cfg(test)]
+mod tests;
