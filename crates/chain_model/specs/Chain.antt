@@ -1,7 +1,7 @@
 -- What a chain is: well typed, within the limits, and numbered as it says.
-use Rattle.std.specs.Prelude.{◌≡◌, ℕ, ◌<◌, ◌≤◌, ◌^◌, ◌==◌, ◌&&◌, ℤ, pos, ◌≤ℤ◌, unsigned_abs, List, [], ◌∷◌, length, All, Bool, true, false, Option, Some, None, IfSome, IsTrue, slice_get}
-use Rattle.std.specs.List.{AllPairs, list_any, enumerate_from}
-use Rattle.std.specs.Option.{IsSomeAnd, option_map_or}
+use Rattle.std.specs.Prelude.{◌≡◌, ℕ, ◌<◌, ◌≤◌, ◌^◌, ◌==◌, ◌&&◌, ℤ, pos, ◌≤ℤ◌, unsigned_abs, List, [], ◌∷◌, length, All, Bool, true, false, Option, Some, None, IfSome, IsTrue, slice_get, slice_index_or}
+use Rattle.std.specs.List.{AllPairs, list_any}
+use Rattle.std.specs.Option.{option_map_or}
 use Rattle.chain_model.specs.declared.values.Sort.{Sort}
 use Rattle.chain_model.specs.declared.values.Sort.TheVariants as sort
 use Rattle.chain_model.specs.declared.expressions.Labels.TheVariants.{Refused}
@@ -37,8 +37,10 @@ abbrev pub may_assign : Act → Var → Bool
 may_assign act var = option_map_or (λ owner. owner == act.module) var.owner (is_unlabelled act)
 
 -- an assignment is to a variable that is there and that its command may assign, and its right side is of that variable's sort
-abbrev pub IsAssignment : List Var → Act → ℕ × Typed → Type 0
-IsAssignment vars act set = IsSomeAnd (slice_get vars set.0) (λ var. IsTrue (may_assign act var) × HasSort vars Refused var.sort set.1)
+pub record IsAssignment (vars : List Var) (act : Act) (set : ℕ × Typed) : Type 0 where
+  pub known : set.0 < length vars
+  pub allowed : (var : Var) → slice_get vars set.0 ≡ Some var → IsTrue (may_assign act var)
+  pub typed : (var : Var) → slice_get vars set.0 ≡ Some var → HasSort vars Refused var.sort set.1
 
 -- the weight of a branch is a number, and it assigns no variable twice
 pub record IsBranch (vars : List Var) (act : Act) (arm : Arm) : Type 0 where
@@ -59,11 +61,20 @@ pub record IsCommand (vars : List Var) (actions modules : ℕ) (act : Act) : Typ
 abbrev pub is_part : ℕ → ℕ → Act → Bool
 is_part action number act = option_map_or (λ a. a == action) act.action false && act.module == number
 
+-- modules are exactly those that have a command with an action
+abbrev pub TakesExactly : List Act → ℕ → List ℕ → Type 0
+TakesExactly commands action modules =
+    (owner : ℕ) → list_any (λ number. number == owner) modules ≡ list_any (is_part action owner) commands
+
 -- an action takes exactly the modules that have a command with it, at least one, each once and in rising order
 pub record IsAction (commands : List Act) (number : ℕ) (action : Action) : Type 0 where
   pub some : 1 ≤ length action.takes
   pub rising : AllPairs ◌<◌ action.takes
-  pub exact : (owner : ℕ) → list_any (λ number. number == owner) action.takes ≡ list_any (is_part number owner) commands
+  pub exact : TakesExactly commands number action.takes
+
+-- each action is one of its number
+pub record AreActions (commands : List Act) (actions : List Action) : Type 0 where
+  pub each : (number : ℕ) (default : Action) → number < length actions → IsAction commands number (slice_index_or actions number default)
 
 -- a chain is within the limits; its variables, commands and actions are as they must be; its commands go by module; its labels are of sort `bool`
 pub record IsChain (vars : List Var) (actions : List Action) (modules : List (List ℕ)) (commands : List Act) (labels : List (List ℕ × Typed)) : Type 0 where
@@ -73,5 +84,5 @@ pub record IsChain (vars : List Var) (actions : List Action) (modules : List (Li
   pub each_variable : All (IsVariable (length modules)) vars
   pub each_command : All (IsCommand vars (length actions) (length modules)) commands
   pub by_module : AllPairs (λ a b. a.module ≤ b.module) commands
-  pub each_action : All (λ p. IsAction commands p.0 p.1) (enumerate_from 0 actions)
+  pub each_action : AreActions commands actions
   pub each_label : All (λ label. HasSort vars Refused sort.Bool label.1) labels

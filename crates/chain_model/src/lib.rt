@@ -9,9 +9,11 @@ mod chain;
 mod constants;
 mod expressions;
 mod job;
+mod laws;
 pub mod limits;
 mod outcome;
 mod sorts;
+mod starting;
 mod steps;
 mod typing;
 mod values;
@@ -20,11 +22,15 @@ pub use chain::{Act, Action, Arm, Chain, Var};
 pub use constants::Given;
 pub use expressions::{Form, Func, Labels, Op, Typed};
 pub use job::{Claim, Job, Path, PathKind};
+pub use laws::{
+    branch_holds_the_pick, one_outcome, stays_without_choice, step_keeps_ranges, traces_keep_ranges,
+};
 pub use outcome::{Outcome, TraceFault};
 pub use sorts::{
-    common_sort, conditional_sort, is_number, is_of_sort, may_follow, negation_sort, number_sort, opposite_sort,
-    power_sort, remainder_sort, result_sort, rounded_sort,
+    common_sort, conditional_sort, is_number, is_of_sort, may_follow, negation_sort, number_sort,
+    opposite_sort, power_sort, remainder_sort, result_sort, rounded_sort,
 };
+pub use starting::initial;
 pub use steps::{Choice, Taken};
 pub use typing::sort_of;
 pub use values::{LabelValues, Sort, Value};

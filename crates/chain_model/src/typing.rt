@@ -6,8 +6,8 @@ ghost use Rattle.chain_model.specs.Typing.{sort_of, as_declared, label_sort, var
 use crate::chain::Var;
 use crate::expressions::{Form, Func, Labels, Op, Typed};
 use crate::sorts::{
-    conditional_sort, is_of_sort, may_follow, negation_sort, number_sort, opposite_sort, power_sort,
-    remainder_sort, result_sort, rounded_sort,
+    conditional_sort, is_of_sort, may_follow, negation_sort, number_sort, opposite_sort,
+    power_sort, remainder_sort, result_sort, rounded_sort,
 };
 use crate::values::Sort;
 
@@ -124,7 +124,13 @@ fn level_sort(vars: &[Var], labels: Labels, operands: &[Typed], operators: &[Op]
 
 /// The sort of the operands after the first joined to what stands before them.
 #[cycle(typing)]
-fn links_sort(vars: &[Var], labels: Labels, first: Sort, operands: &[Typed], operators: &[Op]) -> Option<Sort>
+fn links_sort(
+    vars: &[Var],
+    labels: Labels,
+    first: Sort,
+    operands: &[Typed],
+    operators: &[Op],
+) -> Option<Sort>
     ensures { result ≡ links_sort first (map (sort_of vars.now labels) (drop 1 operands.now)) operators.now }
 {
     let mut sort = first;
@@ -141,7 +147,13 @@ fn links_sort(vars: &[Var], labels: Labels, first: Sort, operands: &[Typed], ope
 
 /// The sort of an operator's result, by the sort of what stands before it and the operand after it.
 #[cycle(typing)]
-fn link_sort(vars: &[Var], labels: Labels, operator: Op, left: Sort, operand: &Typed) -> Option<Sort>
+fn link_sort(
+    vars: &[Var],
+    labels: Labels,
+    operator: Op,
+    left: Sort,
+    operand: &Typed,
+) -> Option<Sort>
     ensures { result ≡ link_sort operator left (sort_of vars.now labels operand.now) }
 {
     match sort_of(vars, labels, operand) {
@@ -190,7 +202,10 @@ fn both_sorts(vars: &[Var], labels: Labels, parts: &[Typed]) -> Option<(Sort, So
     let [first, second] = parts else {
         return None;
     };
-    Some((sort_of(vars, labels, first)?, sort_of(vars, labels, second)?))
+    Some((
+        sort_of(vars, labels, first)?,
+        sort_of(vars, labels, second)?,
+    ))
 }
 
 /// The sort of the least or the greatest of two numbers or more.
