@@ -4,6 +4,7 @@ ghost use Rattle.std.specs.Prelude.{◌≡◌, ℕ, ◌+◌, ◌^◌, ◌<◌, �
 ghost use Rattle.chain_model.specs.declared.job.Job.{Job};
 ghost use Rattle.chain_model.specs.declared.outcome.Outcome.{Outcome};
 ghost use Rattle.chain_model.specs.Outcome.{IsOutcome};
+ghost use Rattle.chain_model.proofs.OutcomeLemmas.{one_outcome_at_most};
 ghost use Rattle.stop_rules.specs.declared.end.End.{End};
 ghost use Rattle.stop_rules.specs.declared.goal.Goal.{Goal};
 ghost use Rattle.stop_rules.specs.Decision.{Counts};
@@ -12,6 +13,8 @@ ghost use Rattle.stop_rules.specs.Run.{EndsFrom, EndsRun, EndsAmong, GoesPast, R
 ghost use Rattle.stop_rules.specs.Codes.{code_of, given_in, bits_of, truths_in, seen_in, IsCode, IsBlockCode};
 ghost use Rattle.stop_rules.specs.Observers.{Observation, kind_of, state_of};
 ghost use Rattle.stop_rules.specs.Seats.{Seated, seat_after_all};
+
+use chain_model::{Job, one_outcome};
 
 /// Outcomes of numbered traces: each trace has one at most.
 pub trait Outcomes {
@@ -22,7 +25,24 @@ pub trait Outcomes {
     ghost one: { (all : Self) (trace : ℕ) (a b : Outcome) → outcome_at all trace a → outcome_at all trace b → a ≡ b };
 }
 
-/// Law: over any outcomes a run has at most one end, and a block at most one code.
+impl Outcomes for Job {
+    ghost outcome_at = { λ job trace outcome. IsOutcome job trace outcome };
+
+    ghost one = { λ job trace a b p q. one_outcome_at_most job trace a b p q };
+}
+
+/// Law: a run of a job has at most one end, and a block of its traces at most one code.
+pub fn one_end()
+    ensures run { (job : Job) (goal : Goal) (a b : End) → EndsRun job goal a → EndsRun job goal b → a ≡ b }
+    ensures from { (job : Job) (goal : Goal) (d f : ℕ) (a b : End)
+        → EndsFrom (IsOutcome job) goal d f a → EndsFrom (IsOutcome job) goal d f b → a ≡ b }
+    ensures code { (job : Job) (first count a b : ℕ)
+        → IsBlockCode (IsOutcome job) first count a → IsBlockCode (IsOutcome job) first count b → a ≡ b }
+{
+    one_outcome();
+}
+
+/// Law: over any outcomes too a run has at most one end, and a block at most one code.
 pub fn one_end_of<O: Outcomes>()
     ensures end { (all : O) (goal : Goal) (d f : ℕ) (a b : End)
         → EndsFrom (O.outcome_at all) goal d f a → EndsFrom (O.outcome_at all) goal d f b → a ≡ b }

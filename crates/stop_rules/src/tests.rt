@@ -1,9 +1,8 @@
-ghost use Rattle.std.specs.Prelude.{◌≡◌, IsTrue};
-ghost use Rattle.std.proofs.Common.{sym, ◌∙◌};
-ghost use Rattle.chain_model.specs.declared.outcome.Outcome.TheVariants as Outcome;
+ghost use Rattle.std.specs.Prelude.{IsTrue};
 ghost use Rattle.stop_rules.specs.Codes.{IsCode};
 
 use super::*;
+use chain_model::Job;
 use sampling_plan::Plan;
 use smc_num::Frac;
 use std::alloc::Global;
@@ -203,20 +202,12 @@ fn a_recorder_leaves_with_the_last_bit_that_it_wants(rt: HostRuntime) {
     assert_eq!(rt; line.bytes(), b"first 2: 01".as_slice());
 }
 
-/// Traces that are all true.
-struct AllTrue;
-
-impl Outcomes for AllTrue {
-    ghost outcome_at = { λ all trace outcome. outcome ≡ Outcome.True };
-
-    ghost one = { λ all trace a b p q. p ∙ sym q };
-}
-
 #[test]
-fn laws_hold_of_outcomes_of_any_kind(_rt: HostRuntime) {
-    one_end_of::<AllTrue>();
-    one_run_of::<AllTrue>();
-    block_law_of::<AllTrue>();
+fn laws_cost_nothing(_rt: HostRuntime) {
+    one_end_of::<Job>();
+    one_run_of::<Job>();
+    block_law_of::<Job>();
+    one_end();
     one_run();
     block_law();
     code_law();
