@@ -1,6 +1,6 @@
 -- The code of a block, and what is read from it.
-use Rattle.std.proofs.Common.{◌≡◌, ◌==◌, ℕ, zero, suc, ◌+◌, ◌-◌, ◌*◌, ◌/◌, ◌%◌, ◌^◌, ◌<◌, ◌≤◌, ◌⊎◌, inl, inr, Bool, true, false, List, [], ◌∷◌, ◌++◌, Option, Some, None, refl, ap, sym, ◌∙◌, subst, arith, rules, length, slice_get, map, take, option_map, nat_lt, get_or, if◌then◌else◌}
-use Rattle.std.proofs.lemmas.List.{length-map, append-nil, take_all}
+use Rattle.std.proofs.Common.{◌≡◌, ℕ, zero, suc, ◌+◌, ◌-◌, ◌*◌, ◌/◌, ◌%◌, ◌^◌, ◌<◌, ◌≤◌, inl, inr, Bool, true, false, List, [], ◌∷◌, ◌++◌, Option, Some, None, refl, ap, sym, ◌∙◌, subst, arith, rules, length, slice_get, map, take, nat_lt, get_or, if◌then◌else◌}
+use Rattle.std.proofs.lemmas.List.{length-map, take_all}
 use Rattle.std.proofs.lemmas.Nat.{pow-add}
 use Rattle.std.proofs.lemmas.Option.{slice_get-get_or}
 use Rattle.std.proofs.Math.Nat.{pow-succ', pow-le-pow_right}
@@ -119,7 +119,7 @@ block_seen outcome_at flip first count code few block =
     let long : length front ≡ length block.truths = length-map (map (is_success flip) block.truths) (λ t. Some t) ∙ length-map block.truths (is_success flip) in
     let rest = rest_seen outcome_at flip first count (length block.truths) block.stops in
     let all : AreSeen outcome_at flip first (front ++ (if nat_lt (length block.truths) count then None ∷ [] else [])) =
-      are_seen-append outcome_at flip first front _ (are_seen_flipped outcome_at flip first block.truths block.seen) (rw long rest) in
+    are_seen-append outcome_at flip first front _ (are_seen_flipped outcome_at flip first block.truths block.seen) (rw long rest) in
     rw (block.is, truths_in-code flip block.truths short, given_in-code block.truths short) all
 
 -- the code of a block is a code
@@ -137,7 +137,7 @@ none_shorter outcome_at first count a b one p q h =
           let n = length p.truths in
           let is : slice_get q.truths n ≡ Some (get_or q.truths n true) = slice_get-get_or q.truths n true h in
           let both : None ≡ Some (get_or q.truths n true) =
-            sees_one_of outcome_at false first one n None (Some (get_or q.truths n true)) fault.1 (q.seen n (Some (get_or q.truths n true)) (get_some q.truths n (get_or q.truths n true) is)) in
+          sees_one_of outcome_at false first one n None (Some (get_or q.truths n true)) fault.1 (q.seen n (Some (get_or q.truths n true)) (get_some q.truths n (get_or q.truths n true) is)) in
           absurd cc
     ]
 
@@ -149,8 +149,10 @@ code_once outcome_at first count a b one p q =
     let not_longer = none_shorter outcome_at first count b a one q p in
     let long : length p.truths ≤ length q.truths = omega (arith, not_shorter, not_longer) in
     let short : length q.truths ≤ length p.truths = omega (arith, not_shorter, not_longer) in
-    let agree : Agree p.truths q.truths = record { at = λ k x y e f.
-      let same : Some x ≡ Some y = sees_one_of outcome_at false first one k (Some x) (Some y) (p.seen k (Some x) (get_some p.truths k x e)) (q.seen k (Some y) (get_some q.truths k y f)) in cc } in
+    let agree : Agree p.truths q.truths = record {
+      at = λ k x y e f.
+          let same : Some x ≡ Some y = sees_one_of outcome_at false first one k (Some x) (Some y) (p.seen k (Some x) (get_some p.truths k x e)) (q.seen k (Some y) (get_some q.truths k y f)) in cc;
+    } in
     let front : take (length p.truths) q.truths ≡ p.truths = prefix_of_agreed p.truths q.truths long agree in
     let same : p.truths ≡ q.truths = sym front ∙ take_all (length p.truths) q.truths short in
     p.is ∙ (ap code_of same ∙ sym q.is)

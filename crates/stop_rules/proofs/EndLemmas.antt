@@ -1,5 +1,5 @@
 -- A run has one end.
-use Rattle.std.proofs.Common.{◌≡◌, ◌↔◌, ℕ, zero, suc, ◌+◌, ◌<◌, ◌≤◌, Bool, true, false, List, [], ◌∷◌, ◌++◌, Option, Some, None, refl, ap, sym, ◌∙◌, subst, arith, length, slice_get, take, map, option_map, get_or}
+use Rattle.std.proofs.Common.{◌≡◌, ◌↔◌, ℕ, suc, ◌<◌, ◌≤◌, Bool, true, List, Option, Some, None, ap, sym, ◌∙◌, subst, arith, length, slice_get, take, map, option_map, get_or}
 use Rattle.std.proofs.lemmas.List.{take_all, length-map}
 use Rattle.std.proofs.lemmas.Option.{slice_get-get_or, slice_get_within, slice_get-map}
 use Rattle.stop_rules.specs.declared.end.End.{End}
@@ -76,8 +76,10 @@ no_end_among goal counts truths end goes_on q =
     let is : slice_get truths n ≡ Some truth = slice_get-get_or truths n true within in
     let mapped : slice_get (map (λ t. Some t) truths) n ≡ Some (Some truth) = slice_get-map (λ t. Some t) truths n ∙ ap (option_map (λ t. Some t)) is in
     let last : q.last ≡ Some truth = let both : Some q.last ≡ Some (Some truth) = sym q.last_seen ∙ mapped in cc in
-    let front : take n truths ≡ q.before = prefix_of_agreed q.before truths (omega arith) (record { at = λ k x y e f.
-      let here : Some (Some x) ≡ Some (Some y) = sym (q.seen k x e) ∙ (slice_get-map (λ t. Some t) truths k ∙ ap (option_map (λ t. Some t)) f) in cc }) in
+    let front : take n truths ≡ q.before = prefix_of_agreed q.before truths (omega arith) (record {
+      at = λ k x y e f.
+          let here : Some (Some x) ≡ Some (Some y) = sym (q.seen k x e) ∙ (slice_get-map (λ t. Some t) truths k ∙ ap (option_map (λ t. Some t)) f) in cc;
+    }) in
     let ends : end_with goal (counts_after counts (take n truths)) (Some truth) ≡ Some end = rw front (rw last at q.ends) in
     not_within goal counts truths n truth end goes_on within is ends
 

@@ -1,5 +1,5 @@
 -- What a kind and a state tell of an observer.
-use Rattle.std.proofs.Common.{◌≡◌, ℕ, Bool, true, false, List, [], ◌∷◌, refl, ap, map}
+use Rattle.std.proofs.Common.{◌≡◌, Bool, true, false, List, [], ◌∷◌, refl, map}
 use Rattle.stop_rules.specs.Observers.{Observation, longest_run, batches, recorder, bit_of, kind_of, state_of}
 
 -- bits are equal where they are as numbers

@@ -1,12 +1,12 @@
 -- Runs over outcomes that reach some counts, and end or go on from there.
-use Rattle.std.proofs.Common.{◌≡◌, ℕ, ◌+◌, ◌≤◌, inl, inr, Bool, true, false, List, [], ◌∷◌, ◌++◌, Option, Some, None, refl, ap, sym, ◌∙◌, subst, arith, length, slice_get, map, length-append}
+use Rattle.std.proofs.Common.{◌≡◌, ℕ, ◌+◌, inl, inr, Bool, List, [], ◌∷◌, ◌++◌, Some, refl, ap, ◌∙◌, subst, arith, length, map, length-append}
 use Rattle.std.proofs.lemmas.List.{length-map, map-append}
 use Rattle.chain_model.specs.declared.outcome.Outcome.{Outcome}
 use Rattle.stop_rules.specs.declared.end.End.{End}
 use Rattle.stop_rules.specs.declared.goal.Goal.{Goal}
 use Rattle.stop_rules.specs.Decision.{Counts, counted, counts_after}
-use Rattle.stop_rules.specs.Seen.{SeenAt, AreSeen}
-use Rattle.stop_rules.specs.Run.{EndsOn, EndsFrom, GoesPast, Reaches}
+use Rattle.stop_rules.specs.Seen.{AreSeen}
+use Rattle.stop_rules.specs.Run.{EndsFrom, GoesPast, Reaches}
 use Rattle.stop_rules.proofs.RunLemmas.{counts_after-nil, counts_after-append, counts_after-one, counted_once, goes_on-append, past-append}
 use Rattle.stop_rules.proofs.SeenLemmas.{get_split, get_some, seen_at_equal, are_seen-append}
 
@@ -15,7 +15,7 @@ pub sum-counts_after : (truths : List Bool) (counts : Counts) → (counts_after 
 sum-counts_after [] counts = rw (counts_after-nil counts) (omega arith)
 sum-counts_after (truth ∷ truths) counts =
     let step : counts_after counts (truth ∷ truths) ≡ counts_after (counted truth counts) truths =
-      counts_after-append counts (truth ∷ []) truths ∙ ap (λ (v : Counts). counts_after v truths) (counts_after-one counts truth) in
+    counts_after-append counts (truth ∷ []) truths ∙ ap (λ (v : Counts). counts_after v truths) (counts_after-one counts truth) in
     let once : (counted truth counts).d + (counted truth counts).f ≡ counts.d + counts.f + 1 = counted_once truth counts (counted truth counts) refl in
     let rest = sum-counts_after truths (counted truth counts) in
     rw step (omega arith)

@@ -1,5 +1,5 @@
 -- How a run goes on, and how it ends.
-use Rattle.std.proofs.Common.{◌≡◌, ℕ, zero, suc, ◌+◌, ◌<◌, ◌≤◌, inl, inr, Bool, true, false, not, List, [], ◌∷◌, ◌++◌, Option, Some, None, refl, ap, sym, ◌∙◌, arith, length, slice_get, take, map, option_map, count_by, length-append, nat_lt, rules, add-zero, add_assoc}
+use Rattle.std.proofs.Common.{◌≡◌, ℕ, zero, suc, ◌+◌, ◌<◌, ◌≤◌, inl, inr, Bool, true, false, not, List, [], ◌∷◌, ◌++◌, Option, Some, None, refl, ap, sym, ◌∙◌, arith, length, slice_get, take, map, option_map, count_by, length-append, nat_lt, rules}
 use Rattle.std.proofs.lemmas.List.{take_all, take-append-le, append-nil}
 use Rattle.std.proofs.lemmas.List.Sums.{sum_by-append}
 use Rattle.std.proofs.Math.Seq.{take-append-add}
@@ -11,7 +11,7 @@ use Rattle.stop_rules.specs.Decision.{Counts, counted, counts_after, cause_at, e
 use Rattle.stop_rules.specs.Run.{GoesOn, EndsOn, EndsAmong, GoesPast}
 use Rattle.stop_rules.specs.Codes.{given_in, truths_in, seen_in}
 use Rattle.stop_rules.proofs.CodeLemmas.{length-truths}
-use Rattle.stop_rules.proofs.ListLemmas.{get_in_prefix, get_mapped, get_next, get_behind, get_joined, take_one_more, length-take_before, at_most_or_more}
+use Rattle.stop_rules.proofs.ListLemmas.{get_in_prefix, get_mapped, get_next, get_behind, get_joined, length-take_before, at_most_or_more}
 
 -- as many pass a test in two lists as in one and in the other
 count_by-append : (p : Bool → Bool) (first more : List Bool) → count_by p (first ++ more) ≡ count_by p first + count_by p more

@@ -1,6 +1,6 @@
 -- Seats that are fed, and those that may be fed.
-use Rattle.std.proofs.Common.{◌≡◌, ℕ, zero, suc, ◌+◌, ◌<◌, ◌≤◌, List, [], ◌∷◌, ◌++◌, Bool, true, false, ◌&&◌, Option, Some, None, IsTrue, refl, length, get_or, slice_get, append-nil, set, map, take, drop, option_map, ◌∙◌, ap, sym, arith, nat_lt, if◌then◌else◌, add-one}
-use Rattle.std.specs.List.{list_all, fold}
+use Rattle.std.proofs.Common.{◌≡◌, ℕ, zero, suc, ◌+◌, ◌<◌, ◌≤◌, List, [], ◌∷◌, ◌++◌, Bool, true, false, ◌&&◌, Some, IsTrue, refl, length, get_or, slice_get, append-nil, set, map, take, drop, ◌∙◌, ap, sym, arith, nat_lt, if◌then◌else◌, add-one}
+use Rattle.std.specs.List.{list_all}
 use Rattle.std.proofs.lemmas.List.{map-set, get_or-map, length-map, take_all, drop_all}
 use Rattle.std.proofs.lemmas.List.Sums.{fold-append}
 use Rattle.std.proofs.lemmas.List.Edits.{map_over_more}

@@ -1,9 +1,8 @@
 -- What is seen of traces, one after the other.
-use Rattle.std.proofs.Common.{◌≡◌, ℕ, zero, suc, ◌+◌, ◌<◌, ◌≤◌, ◌⊎◌, inl, inr, Bool, true, false, List, [], ◌∷◌, ◌++◌, Option, Some, None, refl, ap, sym, ◌∙◌, subst, arith, length, slice_get, map, option_map}
-use Rattle.std.proofs.lemmas.List.{length-map}
+use Rattle.std.proofs.Common.{◌≡◌, ℕ, zero, suc, ◌+◌, ◌⊎◌, inl, inr, Bool, false, List, [], ◌∷◌, ◌++◌, Option, Some, refl, ap, sym, ◌∙◌, subst, arith, length, slice_get, map, option_map}
 use Rattle.chain_model.specs.declared.outcome.Outcome.{Outcome}
 use Rattle.chain_model.specs.declared.outcome.Outcome.TheVariants.{True, False, Fault}
-use Rattle.stop_rules.specs.Seen.{truth_of, is_success, seen_of, SeenAt, AreSeen}
+use Rattle.stop_rules.specs.Seen.{is_success, seen_of, SeenAt, AreSeen}
 use Rattle.stop_rules.proofs.EndLemmas.{SeesOne}
 
 -- an element of two lists is one of the first, or so much later one of the second

@@ -9,7 +9,8 @@ number_of [] = 0
 number_of (true ∷ bits) = 1 + 2 * number_of bits
 number_of (false ∷ bits) = 2 * number_of bits
 
--- the code of a block: bit j is the raw truth value of its j-th trace, bits 32 to 37 say how many come before the first fault, and bit 63 is set
+-- the code of a block: bit j is the raw truth value of its j-th trace, bits 32 to 37 say how many come before the
+-- first fault, and bit 63 is set
 abbrev pub code_of : List Bool → ℕ
 code_of truths = 2 ^ 63 + (2 ^ 32 * length truths + number_of truths)
 
@@ -28,7 +29,8 @@ truths_in flip code = map (is_success flip) (bits_of (given_in code) code)
 
 -- what is seen of a block of so many traces: those before the first fault, and the fault, if there is one
 abbrev pub seen_in : Bool → ℕ → ℕ → List (Option Bool)
-seen_in flip code count = map (λ truth. Some truth) (truths_in flip code) ++ (if nat_lt (given_in code) count then None ∷ [] else [])
+seen_in flip code count =
+    map (λ truth. Some truth) (truths_in flip code) ++ (if nat_lt (given_in code) count then None ∷ [] else [])
 
 -- a code of a block of so many traces: it is marked, and tells of no more traces than the block has
 pub record IsCode (code count : ℕ) : Type 0 where

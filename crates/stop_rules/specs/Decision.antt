@@ -51,7 +51,8 @@ counts_after counts truths = record { d = counts.d + count_by (λ truth. truth) 
 abbrev pub end_at : Counts → Cause → End
 end_at counts cause = record { cause = cause; d = counts.d; f = counts.f }
 
--- the end that one more trace brings, if any: a fault ends the run and is counted in neither count; otherwise the counts with the trace may
+-- the end that one more trace brings, if any: a fault ends the run and is counted in neither count; otherwise the
+-- counts with the trace may end it
 abbrev pub end_with : Goal → Counts → Option Bool → Option End
 end_with goal counts None = Some (end_at counts cause.Fault)
 end_with goal counts (Some truth) = option_map (end_at (counted truth counts)) (cause_at goal (counted truth counts))

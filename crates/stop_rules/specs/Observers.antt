@@ -3,8 +3,9 @@ use Rattle.std.specs.Prelude.{◌==◌, ℕ, ◌+◌, ◌-◌, ◌^◌, Bool, tr
 use Rattle.stop_rules.specs.declared.observer.Stay.{Stay}
 use Rattle.stop_rules.specs.declared.observer.Stay.TheVariants.{Keep, Leave}
 
--- what an observer has seen: the present and the longest run of true; batches, with those seen and true in the present one, how many were full, and
--- the least and the most true in a full one; or the first bits, of which it wants so many
+-- what an observer has seen: the present and the longest run of true; or batches, with those seen and true in the
+-- present one, how many were full, and the least and the most true in a full one; or the first bits, of which it
+-- wants so many
 pub data Observation : Type 0 where
   longest_run : (run best : ℕ) → Observation
   batches : (size seen trues full least most : ℕ) → Observation
@@ -75,5 +76,6 @@ digits_after_blank (bit ∷ bits) = codes " " ++ map digit_of (bit ∷ bits)
 abbrev pub line_of : Observation → List ℕ
 line_of (longest_run run best) = codes "longest run of true: " ++ decimal best
 line_of (batches size seen trues full least most) =
-    codes "batches of " ++ (decimal size ++ (codes ": " ++ (decimal full ++ (codes " full, least " ++ (decimal least ++ (codes ", most " ++ decimal most))))))
+    codes "batches of " ++ (decimal size ++ (codes ": " ++ (decimal full ++ (codes " full, least "
+    ++ (decimal least ++ (codes ", most " ++ decimal most))))))
 line_of (recorder most bits) = codes "first " ++ (decimal (length bits) ++ (codes ":" ++ digits_after_blank bits))

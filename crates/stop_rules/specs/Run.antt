@@ -12,7 +12,8 @@ use Rattle.stop_rules.specs.Seen.{SeenAt, AreSeen}
 abbrev pub GoesOn : Goal → Counts → List Bool → Type 0
 GoesOn goal counts truths = (m : ℕ) → 0 < m → m ≤ length truths → cause_at goal (counts_after counts (take m truths)) ≡ None
 
--- a run from these counts ends, where `seen_at k seen` says what is seen of the k-th trace from there: whether it succeeded, or nothing where it faults
+-- a run from these counts ends, where `seen_at k one` says what is seen of the k-th trace from there: whether it
+-- succeeded, or nothing where it faults
 pub record EndsOn (seen_at : ℕ → Option Bool → Type 0) (goal : Goal) (counts : Counts) (end : End) : Type 0 where
   -- the traces before the last one
   pub before : List Bool
@@ -25,7 +26,8 @@ pub record EndsOn (seen_at : ℕ → Option Bool → Type 0) (goal : Goal) (coun
 
 -- the run from d successes and f failures over these outcomes ends; its next trace has the number d + f
 abbrev pub EndsFrom : (ℕ → Outcome → Type 0) → Goal → ℕ → ℕ → End → Type 0
-EndsFrom outcome_at goal d f end = EndsOn (λ k one. SeenAt outcome_at goal.flip (d + f + k) one) goal (record { d = d; f = f }) end
+EndsFrom outcome_at goal d f end =
+    EndsOn (λ k one. SeenAt outcome_at goal.flip (d + f + k) one) goal (record { d = d; f = f }) end
 
 -- the run of a job ends
 abbrev pub EndsRun : Job → Goal → End → Type 0

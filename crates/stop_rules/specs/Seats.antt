@@ -1,6 +1,5 @@
 -- Seats: the observers of a run in the order in which they were handed in, and the lines of those that have left.
-use Rattle.std.specs.Prelude.{ℕ, Bool, true, false, List, [], Option, Some, None, fold}
-use Rattle.std.specs.List.{list_all}
+use Rattle.std.specs.Prelude.{ℕ, Bool, true, List, Option, Some, None, fold}
 use Rattle.stop_rules.specs.declared.observer.Stay.{Stay}
 use Rattle.stop_rules.specs.declared.observer.Stay.TheVariants.{Keep, Leave}
 use Rattle.stop_rules.specs.Observers.{Observation, observe, is_ready, stay_of, line_of}

@@ -24,4 +24,5 @@ SeenAt outcome_at flip trace one = (outcome : Outcome) × outcome_at trace outco
 
 -- these are seen of the traces from this number on
 abbrev pub AreSeen : (ℕ → Outcome → Type 0) → Bool → ℕ → List (Option Bool) → Type 0
-AreSeen outcome_at flip first seen = (k : ℕ) (one : Option Bool) → slice_get seen k ≡ Some one → SeenAt outcome_at flip (first + k) one
+AreSeen outcome_at flip first seen =
+    (k : ℕ) (one : Option Bool) → slice_get seen k ≡ Some one → SeenAt outcome_at flip (first + k) one

@@ -83,7 +83,7 @@ impl Admit {
         ensures seats { let admitted = (self.new.tally.d + self.new.tally.f) - (self.old.tally.d + self.old.tally.f) in
             map (λ s. seated (option_map (λ b. observation b) s.watcher) s.line) self.new.seats.items
             ≡ map (seat_after_all (take admitted (truths_in self.old.goal.flip code)))
-                (map (λ s. seated (option_map (λ b. observation b) s.watcher) s.line) self.old.seats.items) }
+            (map (λ s. seated (option_map (λ b. observation b) s.watcher) s.line) self.old.seats.items) }
         ensures ready { IsTrue (list_all is_ready_seat
             (map (λ s. seated (option_map (λ b. observation b) s.watcher) s.line) self.new.seats.items)) }
     {
@@ -101,7 +101,9 @@ impl Admit {
             ≡ map line_at (map (λ s. seated (option_map (λ b. observation b) s.watcher) s.line) self.seats.items) }
     {
         let Admit {
-            seats, mut lines, ..
+            seats,
+            mut lines,
+            ..
         } = self;
         for seat in seats.iter() {
             lines.push_reserved(line_of_seat(seat));

@@ -49,7 +49,11 @@ impl Observer for Batches {
             self.seen = seen;
             self.trues = trues;
         } else {
-            self.least = if self.full == 0 { trues } else { self.least.min(trues) };
+            self.least = if self.full == 0 {
+                trues
+            } else {
+                self.least.min(trues)
+            };
             self.most = self.most.max(trues);
             self.full = self.full.saturating_add(1);
             self.seen = 0;

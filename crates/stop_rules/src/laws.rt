@@ -69,7 +69,8 @@ pub fn one_run()
         → EndsFrom (IsOutcome job) goal d f end }
 {}
 
-/// Law: over any outcomes too a run that reaches some counts, and others or an end from there, does so from where it began.
+/// Law: over any outcomes too a run that reaches some counts, and others or an end from there, does so from
+/// where it began.
 pub fn one_run_of<O: Outcomes>()
     ensures reached { (all : O) (goal : Goal) (d f : ℕ) (now after : Counts)
         → Reaches (O.outcome_at all) goal d f now → Reaches (O.outcome_at all) goal now.d now.f after
@@ -98,7 +99,8 @@ pub fn block_law()
     ensures seen { (job : Job) (flip : Bool) (first count code : ℕ) → count ≤ 32
         → IsBlockCode (IsOutcome job) first count code → AreSeen (IsOutcome job) flip first (seen_in flip code count) }
     ensures reached { (job : Job) (goal : Goal) (d f count code : ℕ) (after : Counts) → count ≤ 32
-        → IsBlockCode (IsOutcome job) (d + f) count code → GoesPast goal (record { d = d; f = f }) (truths_in goal.flip code) after
+        → IsBlockCode (IsOutcome job) (d + f) count code
+        → GoesPast goal (record { d = d; f = f }) (truths_in goal.flip code) after
         → Reaches (IsOutcome job) goal d f after }
 {}
 
@@ -109,7 +111,8 @@ pub fn block_law_of<O: Outcomes>()
     ensures seen { (all : O) (flip : Bool) (first count code : ℕ) → count ≤ 32
         → IsBlockCode (O.outcome_at all) first count code → AreSeen (O.outcome_at all) flip first (seen_in flip code count) }
     ensures reached { (all : O) (goal : Goal) (d f count code : ℕ) (after : Counts) → count ≤ 32
-        → IsBlockCode (O.outcome_at all) (d + f) count code → GoesPast goal (record { d = d; f = f }) (truths_in goal.flip code) after
+        → IsBlockCode (O.outcome_at all) (d + f) count code
+        → GoesPast goal (record { d = d; f = f }) (truths_in goal.flip code) after
         → Reaches (O.outcome_at all) goal d f after }
 {}
 

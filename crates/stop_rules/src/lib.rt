@@ -20,8 +20,8 @@ pub use batches::Batches;
 pub use end::{Cause, End};
 pub use goal::{Goal, Rule};
 pub use laws::{
-    Outcomes, block_law, block_law_of, code_law, one_end, one_end_of, one_observation, one_run, one_run_of,
-    seat_law,
+    Outcomes, block_law, block_law_of, code_law, one_end, one_end_of, one_observation, one_run,
+    one_run_of, seat_law,
 };
 pub use line::Line;
 pub use longest_run::LongestRun;

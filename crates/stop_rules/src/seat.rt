@@ -17,7 +17,10 @@ pub(crate) struct Seat {
 }
 
 /// A seat for each observer, in order.
-pub(crate) fn seats_of(alloc: Global, watch: Vec<Box<dyn Observer>>) -> Result<Vec<Seat>, AllocError>
+pub(crate) fn seats_of(
+    alloc: Global,
+    watch: Vec<Box<dyn Observer>>,
+) -> Result<Vec<Seat>, AllocError>
     ensures { IfOk result (λ seats.
         map (λ s. seated (option_map (λ b. observation b) s.watcher) s.line) seats.items
         ≡ map (λ b. watching (observation b)) watch.items) }
@@ -75,7 +78,7 @@ fn feed_seat(seat: &mut Seat, flip: bool, code: u64, admitted: u32)
 
     ensures seat { seated (option_map (λ b. observation b) seat.new.watcher) seat.new.line
         ≡ seat_after_all (take admitted (truths_in flip code))
-            (seated (option_map (λ b. observation b) seat.old.watcher) seat.old.line) }
+        (seated (option_map (λ b. observation b) seat.old.watcher) seat.old.line) }
     ensures ready { IsTrue (is_ready_seat (seated (option_map (λ b. observation b) seat.new.watcher) seat.new.line)) }
 {
     for position in 0..admitted {
@@ -93,7 +96,7 @@ pub(crate) fn feed_seats(seats: &mut [Seat], flip: bool, code: u64, admitted: u3
 
     ensures seats { map (λ s. seated (option_map (λ b. observation b) s.watcher) s.line) seats.new
         ≡ map (seat_after_all (take admitted (truths_in flip code)))
-            (map (λ s. seated (option_map (λ b. observation b) s.watcher) s.line) seats.old) }
+        (map (λ s. seated (option_map (λ b. observation b) s.watcher) s.line) seats.old) }
     ensures ready { IsTrue (list_all is_ready_seat
         (map (λ s. seated (option_map (λ b. observation b) s.watcher) s.line) seats.new)) }
 {

@@ -37,17 +37,30 @@ fn end(cause: Cause, d: u64, f: u64) -> Option<End> {
 }
 
 const TRUE: (u64, u32) = (0x8000_0001_0000_0001, 1);
+
 const FALSE: (u64, u32) = (0x8000_0001_0000_0000, 1);
+
 const FAULT: (u64, u32) = (0x8000_0000_0000_0000, 1);
+
 const THREE_TRUE: (u64, u32) = (0x8000_0003_0000_0007, 3);
+
 const TRUE_FALSE_FAULT: (u64, u32) = (0x8000_0002_0000_0001, 3);
+
 const ALL_TRUE: (u64, u32) = (0x8000_0020_ffff_ffff, 32);
+
 const ALL_FALSE: (u64, u32) = (0x8000_0020_0000_0000, 32);
+
 const IN_TURN: (u64, u32) = (0x8000_0020_5555_5555, 32);
+
 const LAST_FAULTS: (u64, u32) = (0x8000_001f_7fff_ffff, 32);
 
 /// The end and the counts of a run from these counts, fed by codes.
-fn run_from(rt: &impl Abort, goal: &Goal, from: (u64, u64), codes: &[(u64, u32)]) -> (Option<End>, (u64, u64)) {
+fn run_from(
+    rt: &impl Abort,
+    goal: &Goal,
+    from: (u64, u64),
+    codes: &[(u64, u32)],
+) -> (Option<End>, (u64, u64)) {
     let mut tally = Tally::new(from.0, from.1);
     let end = fed(rt, goal, &mut tally, codes);
     (end, tally.counts())
@@ -55,7 +68,11 @@ fn run_from(rt: &impl Abort, goal: &Goal, from: (u64, u64), codes: &[(u64, u32)]
 
 #[test]
 fn a_run_by_a_plan_ends_with_the_trace_that_decides(rt: HostRuntime) -> Result<(), Fail> {
-    let goal = Goal { rule: Rule::Plan(Plan::new(10, 7)?), limit: 1_000_000, flip: false };
+    let goal = Goal {
+        rule: Rule::Plan(Plan::new(10, 7)?),
+        limit: 1_000_000,
+        flip: false,
+    };
     let cases = [
         ([TRUE; 7].as_slice(), None, (7, 0)),
         ([TRUE; 8].as_slice(), end(Cause::Accept, 8, 0), (8, 0)),
@@ -63,8 +80,16 @@ fn a_run_by_a_plan_ends_with_the_trace_that_decides(rt: HostRuntime) -> Result<(
         ([ALL_TRUE].as_slice(), end(Cause::Accept, 8, 0), (8, 0)),
         ([ALL_FALSE].as_slice(), end(Cause::Reject, 0, 3), (0, 3)),
         ([IN_TURN].as_slice(), end(Cause::Reject, 3, 3), (3, 3)),
-        ([TRUE, FALSE, FAULT].as_slice(), end(Cause::Fault, 1, 1), (1, 1)),
-        ([TRUE_FALSE_FAULT].as_slice(), end(Cause::Fault, 1, 1), (1, 1)),
+        (
+            [TRUE, FALSE, FAULT].as_slice(),
+            end(Cause::Fault, 1, 1),
+            (1, 1),
+        ),
+        (
+            [TRUE_FALSE_FAULT].as_slice(),
+            end(Cause::Fault, 1, 1),
+            (1, 1),
+        ),
         ([FAULT].as_slice(), end(Cause::Fault, 0, 0), (0, 0)),
         ([LAST_FAULTS].as_slice(), end(Cause::Accept, 8, 0), (8, 0)),
     ];
@@ -72,23 +97,65 @@ fn a_run_by_a_plan_ends_with_the_trace_that_decides(rt: HostRuntime) -> Result<(
         assert_eq!(rt; run_from(&rt, &goal, (0, 0), codes), (end, counts));
     }
     let late = run_from(&rt, &goal, (5, 0), &[THREE_TRUE]);
-    assert_eq!(rt; late, (end(Cause::Accept, 8, 0), (8, 0)), "from five successes");
+    assert_eq!(rt;
+        late,
+        (end(Cause::Accept, 8, 0), (8, 0)),
+        "from five successes"
+    );
     Ok(())
 }
 
 #[test]
 fn a_run_ends_at_the_limit_and_a_flip_turns_truth(rt: HostRuntime) -> Result<(), Fail> {
     let rule = Rule::Plan(Plan::new(10, 7)?);
-    let short = Goal { rule, limit: 5, flip: false };
-    let turned = Goal { rule, limit: 40, flip: true };
+    let short = Goal {
+        rule,
+        limit: 5,
+        flip: false,
+    };
+    let turned = Goal {
+        rule,
+        limit: 40,
+        flip: true,
+    };
     let cases = [
         (&short, [TRUE; 4].as_slice(), None, (4, 0)),
-        (&short, [TRUE; 5].as_slice(), end(Cause::Limit, 5, 0), (5, 0)),
-        (&short, [TRUE, TRUE, FALSE, FALSE, FALSE].as_slice(), end(Cause::Reject, 2, 3), (2, 3)),
-        (&short, [THREE_TRUE, TRUE, FAULT].as_slice(), end(Cause::Fault, 4, 0), (4, 0)),
-        (&turned, [ALL_FALSE].as_slice(), end(Cause::Accept, 8, 0), (8, 0)),
-        (&turned, [ALL_TRUE].as_slice(), end(Cause::Reject, 0, 3), (0, 3)),
-        (&turned, [FALSE, TRUE, FAULT].as_slice(), end(Cause::Fault, 1, 1), (1, 1)),
+        (
+            &short,
+            [TRUE; 5].as_slice(),
+            end(Cause::Limit, 5, 0),
+            (5, 0),
+        ),
+        (
+            &short,
+            [TRUE, TRUE, FALSE, FALSE, FALSE].as_slice(),
+            end(Cause::Reject, 2, 3),
+            (2, 3),
+        ),
+        (
+            &short,
+            [THREE_TRUE, TRUE, FAULT].as_slice(),
+            end(Cause::Fault, 4, 0),
+            (4, 0),
+        ),
+        (
+            &turned,
+            [ALL_FALSE].as_slice(),
+            end(Cause::Accept, 8, 0),
+            (8, 0),
+        ),
+        (
+            &turned,
+            [ALL_TRUE].as_slice(),
+            end(Cause::Reject, 0, 3),
+            (0, 3),
+        ),
+        (
+            &turned,
+            [FALSE, TRUE, FAULT].as_slice(),
+            end(Cause::Fault, 1, 1),
+            (1, 1),
+        ),
     ];
     for (goal, codes, end, counts) in cases {
         assert_eq!(rt; run_from(&rt, goal, (0, 0), codes), (end, counts));
@@ -99,16 +166,30 @@ fn a_run_ends_at_the_limit_and_a_flip_turns_truth(rt: HostRuntime) -> Result<(),
 // theta is 1/2, delta 1/10, alpha and beta 1/20: the run ends where the odds 3/2 to the power d - f
 // are above 19 or below 1/19, which is at a difference of 8.
 #[test]
-fn a_run_by_the_sequential_test_ends_where_a_boundary_is_crossed(rt: HostRuntime) -> Result<(), Fail> {
+fn a_run_by_the_sequential_test_ends_where_a_boundary_is_crossed(
+    rt: HostRuntime,
+) -> Result<(), Fail> {
     let error = Frac::new(1, 20)?;
     let wald = Wald::new(Frac::new(1, 2)?, Frac::new(1, 10)?, error, error)?;
-    let goal = Goal { rule: Rule::Wald(wald), limit: 268_435_456, flip: false };
+    let goal = Goal {
+        rule: Rule::Wald(wald),
+        limit: 268_435_456,
+        flip: false,
+    };
     let cases = [
         ([TRUE; 7].as_slice(), None, (7, 0)),
         ([ALL_TRUE].as_slice(), end(Cause::Accept, 8, 0), (8, 0)),
         ([ALL_FALSE].as_slice(), end(Cause::Reject, 0, 8), (0, 8)),
-        ([IN_TURN, ALL_TRUE].as_slice(), end(Cause::Accept, 24, 16), (24, 16)),
-        ([IN_TURN, FALSE, ALL_TRUE].as_slice(), end(Cause::Accept, 25, 17), (25, 17)),
+        (
+            [IN_TURN, ALL_TRUE].as_slice(),
+            end(Cause::Accept, 24, 16),
+            (24, 16),
+        ),
+        (
+            [IN_TURN, FALSE, ALL_TRUE].as_slice(),
+            end(Cause::Accept, 25, 17),
+            (25, 17),
+        ),
     ];
     for (codes, end, counts) in cases {
         assert_eq!(rt; run_from(&rt, &goal, (0, 0), codes), (end, counts));
@@ -124,7 +205,10 @@ struct Counting {
 
 impl Drop for Counting {
     fn drop(self) {
-        let Counting { recorder: _recorder, drops } = self;
+        let Counting {
+            recorder: _recorder,
+            drops,
+        } = self;
         drops.set(drops.get().saturating_add(1));
     }
 }
@@ -149,9 +233,19 @@ fn observers_see_what_was_admitted_and_one_that_leaves_is_dropped_at_once(
     let drops = Rc::new(alloc, Cell::new(0))?;
     let mut watch: Vec<Box<dyn Observer>> = Vec::new(alloc);
     watch.push(Box::new(alloc, LongestRun::new())?)?;
-    watch.push(Box::new(alloc, Counting { recorder: Recorder::new(3), drops: drops.clone()? })?)?;
+    watch.push(Box::new(
+        alloc,
+        Counting {
+            recorder: Recorder::new(3),
+            drops: drops.clone()?,
+        },
+    )?)?;
     watch.push(Box::new(alloc, Batches::new(4))?)?;
-    let goal = Goal { rule: Rule::Plan(Plan::new(10, 7)?), limit: 1_000_000, flip: false };
+    let goal = Goal {
+        rule: Rule::Plan(Plan::new(10, 7)?),
+        limit: 1_000_000,
+        flip: false,
+    };
     let mut admit = Admit::new(alloc, goal, watch)?;
     assert_eq!(rt; admit.feed_code(0x8000_0002_0000_0003, 2), None);
     assert_eq!(rt; drops.get(), 0);
@@ -164,7 +258,10 @@ fn observers_see_what_was_admitted_and_one_that_leaves_is_dropped_at_once(
     assert_eq!(rt; lines.len(), 3);
     assert_eq!(rt; lines[0].bytes(), b"longest run of true: 8".as_slice());
     assert_eq!(rt; lines[1].bytes(), b"first 3: 111".as_slice());
-    assert_eq!(rt; lines[2].bytes(), b"batches of 4: 2 full, least 4, most 4".as_slice());
+    assert_eq!(rt;
+        lines[2].bytes(),
+        b"batches of 4: 2 full, least 4, most 4".as_slice()
+    );
     assert_eq!(rt; drops.get(), 1);
     Ok(())
 }
@@ -183,9 +280,15 @@ fn observers_say_what_they_saw(rt: HostRuntime) {
     longest.line(&mut line);
     assert_eq!(rt; line.bytes(), b"longest run of true: 3".as_slice());
     pairs.line(&mut line);
-    assert_eq!(rt; line.bytes(), b"batches of 2: 4 full, least 0, most 2".as_slice());
+    assert_eq!(rt;
+        line.bytes(),
+        b"batches of 2: 4 full, least 0, most 2".as_slice()
+    );
     thousands.line(&mut line);
-    assert_eq!(rt; line.bytes(), b"batches of 1000: 0 full, least 0, most 0".as_slice());
+    assert_eq!(rt;
+        line.bytes(),
+        b"batches of 1000: 0 full, least 0, most 0".as_slice()
+    );
 }
 
 #[test]

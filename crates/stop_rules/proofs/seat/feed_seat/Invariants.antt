@@ -8,6 +8,6 @@ abbrev pub invariant-loop-position : goal.invariant-loop-position
 invariant-loop-position g l = record {
   seat : seated (option_map (λ b. (goal.Observer-dyn g (b.vtable, b.value)).observation b.value) l.seat.watcher) l.seat.line
       ≡ seat_after_all (take l.position (truths_in l.flip l.code))
-          (seated (option_map (λ b. (goal.Observer-dyn g (b.vtable, b.value)).observation b.value) l.initial.seat.watcher) l.initial.seat.line);
+      (seated (option_map (λ b. (goal.Observer-dyn g (b.vtable, b.value)).observation b.value) l.initial.seat.watcher) l.initial.seat.line);
   ready : IsTrue (is_ready_seat (seated (option_map (λ b. (goal.Observer-dyn g (b.vtable, b.value)).observation b.value) l.seat.watcher) l.seat.line));
 }

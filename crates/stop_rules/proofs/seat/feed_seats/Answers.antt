@@ -1,4 +1,4 @@
-use Rattle.std.proofs.Common.{◌<◌, length, arith, take, sym, IsTrue}
+use Rattle.std.proofs.Common.{◌<◌, length, arith, take}
 use Rattle.stop_rules.specs.Codes.{truths_in}
 use Rattle.stop_rules.specs.Seats.{seat_after_all, is_ready_seat}
 use Rattle.stop_rules.proofs.SeatLemmas.{changed_one_more, passes_at, all_changed, all_ready_after_all}

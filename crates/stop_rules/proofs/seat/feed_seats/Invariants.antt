@@ -8,5 +8,5 @@ abbrev pub invariant-loop-seat : goal.invariant-loop-seat
 invariant-loop-seat g l =
     map (λ s. seated (option_map (λ b. (goal.Observer-dyn g (b.vtable, b.value)).observation b.value) s.watcher) s.line) l.seats
     ≡ map (seat_after_all (take l.admitted (truths_in l.flip l.code)))
-        (take l.seat-index (map (λ s. seated (option_map (λ b. (goal.Observer-dyn g (b.vtable, b.value)).observation b.value) s.watcher) s.line) l.initial.seats))
+    (take l.seat-index (map (λ s. seated (option_map (λ b. (goal.Observer-dyn g (b.vtable, b.value)).observation b.value) s.watcher) s.line) l.initial.seats))
     ++ drop l.seat-index (map (λ s. seated (option_map (λ b. (goal.Observer-dyn g (b.vtable, b.value)).observation b.value) s.watcher) s.line) l.initial.seats)

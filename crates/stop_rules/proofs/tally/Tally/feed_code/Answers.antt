@@ -1,4 +1,4 @@
-use Rattle.std.proofs.Common.{◌≡◌, ◌+◌, ◌<◌, ◌≤◌, ◌++◌, ◌∷◌, [], Some, None, ℕ, Bool, arith, rules, refl, take, map, sym, ◌∙◌, nat_lt, add-one, false, if◌then◌else◌, List, Option}
+use Rattle.std.proofs.Common.{◌≡◌, ◌∷◌, [], Some, None, Bool, arith, take, sym, ◌∙◌, nat_lt, add-one, if◌then◌else◌, List, Option}
 use Rattle.stop_rules.specs.Codes.{given_in, truths_in, seen_in}
 use Rattle.stop_rules.specs.Decision.{end_with}
 use Rattle.stop_rules.proofs.ListLemmas.{take_one_more}
