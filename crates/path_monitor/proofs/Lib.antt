@@ -1,0 +1,4 @@
+pub mod PairLemmas
+pub mod SettlingLemmas
+pub mod SeenLemmas
+pub mod BitLemmas
