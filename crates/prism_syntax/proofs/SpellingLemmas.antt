@@ -58,6 +58,7 @@ word_none text r is = (none_reserved, reserved_none r is)
   where
     none_reserved : r ≡ None → IsNotReserved text
     none_reserved none kind reserved = none-some kind (sym none ∙ is ∙ listed_word kind text reserved.word reserved.spelling)
+
     reserved_none : (r : Option Kind) → r ≡ lookup (bytes_eq text) (words_of (length text)) → IsNotReserved text → r ≡ None
     reserved_none None is not_reserved = refl
     reserved_none (Some kind) is not_reserved = absurd (not_reserved kind (word_found text (Some kind) is))

@@ -90,7 +90,10 @@ fn the_deepest_tree_is_copied_counted_replaced_and_let_go(rt: HostRuntime) -> Re
     table.insert(Text::from_bytes(alloc, b"x")?, paren)?;
     let replaced = again.replace(alloc, &table)?;
     assert_eq!(rt; (nodes(&tree), depth_of_parens(&tree)), (11_329, 64));
-    assert_eq!(rt; (nodes(&replaced), depth_of_parens(&replaced)), (11_330, 65));
+    assert_eq!(rt;
+        (nodes(&replaced), depth_of_parens(&replaced)),
+        (11_330, 65)
+    );
     Ok(())
 }
 
