@@ -1,0 +1,4 @@
+use Rattle.prism_limits.proofs.arrows.is_operand.Goals as goal
+
+pub returns-in-Ok : goal.returns-in-Ok
+returns-in-Ok c = ?
