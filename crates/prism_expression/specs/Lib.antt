@@ -1,3 +1,2 @@
+pub mod Longest
 pub mod Follow
-pub mod Answers
-pub mod Fronts

@@ -1,20 +1,10 @@
-//! Reads expressions: the longest text of a line of their grammar, with its tree.
+//! Parses expressions: the longest text of a level of their grammar, with its tree, or a text up to a token that ends it.
 #![tactic(auto)]
 
-mod answers;
-mod calls;
-mod chains;
-mod conditionals;
 mod laws;
-mod marks;
-mod primaries;
-mod reading;
-mod signs;
-mod trees;
+mod longest;
+mod parsing;
 
-pub use answers::Unread;
 pub use laws::one_tree;
-pub use reading::read;
-
-#[cfg(test)]
-mod tests;
+pub use longest::Longest;
+pub use parsing::{expression_until, parse_longest};

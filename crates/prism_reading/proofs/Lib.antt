@@ -1,0 +1,11 @@
+pub mod ReachLemmas
+pub mod TerminalLemmas
+pub mod KindLemmas
+pub mod OverlapLemmas
+pub mod DefiniteLemmas
+pub mod BothLemmas
+pub mod MadeLemmas
+pub mod OneOfLemmas
+pub mod EachLemmas
+pub mod SeparatedLemmas
+pub mod BegunLemmas

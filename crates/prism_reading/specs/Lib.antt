@@ -1,3 +1,4 @@
 pub mod Reach
 pub mod Reading
 pub mod Sequences
+pub mod Begins

@@ -1,5 +1,6 @@
--- Rules that are made of others: single tokens, one rule after another, a rule with its end.
-use Rattle.std.specs.Prelude.{◌≡◌, ℕ, List, ◌++◌, ◌∷◌, []}
+-- Rules that are made of others: single tokens, one rule after another, a rule with its end, one rule or another.
+use Rattle.std.specs.Prelude.{◌≡◌, ◌⊎◌, ℕ, List, ◌++◌, ◌∷◌, []}
+use mathlib.Core.Logic.{inl, inr}
 use Rattle.prism_syntax.specs.declared.tokens.Kind.{Kind}
 use Rattle.prism_syntax.specs.declared.tokens.Kind.TheVariants as k
 
@@ -22,3 +23,8 @@ pub data Both {X Y : Type 0} (First : List Kind → X → Type 0) (Second : List
 -- a text of a rule, and then the one token that ends it
 pub data Ended {X : Type 0} (Rule : List Kind → X → Type 0) (end : Kind) : List Kind → X → Type 0 where
   ended : {a : List Kind} {x : X} → Rule a x → Ended Rule end (a ++ (end ∷ [])) x
+
+-- a text of one rule or of another
+pub data OneOf {X Y : Type 0} (First : List Kind → X → Type 0) (Second : List Kind → Y → Type 0) : List Kind → X ⊎ Y → Type 0 where
+  first : {a : List Kind} {x : X} → First a x → OneOf First Second a (inl x)
+  second : {a : List Kind} {y : Y} → Second a y → OneOf First Second a (inr y)

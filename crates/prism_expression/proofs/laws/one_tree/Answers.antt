@@ -2,4 +2,4 @@ use Rattle.prism_expression.proofs.CompareLemmas
 use Rattle.prism_expression.proofs.laws.one_tree.Goals as goal
 
 pub returns : goal.returns
-returns c quotes line tokens x y first second = CompareLemmas.one_tree first second
+returns c labels level tokens x y first second = CompareLemmas.one_tree first second
