@@ -1,20 +1,31 @@
 -- A walk knows the arrow before a later arrow of its chain.
-use Rattle.std.proofs.Common.{◌≡◌, ◌<◌, ◌+◌, ℕ, Bool, true, false, cond, List, [], ◌∷◌, ◌++◌, length, drop, Option, Some, None, ◌↔◌, refl, sym, ap, subst, ◌∙◌, arith}
-use Rattle.std.specs.Prelude.{All, IfSome, IsTrue}
-use Rattle.std.proofs.lemmas.List.{append_assoc, append-nil, length-append}
+use Rattle.std.proofs.Common.{◌≡◌, ◌<◌, ◌+◌, ℕ, Bool, true, false, cond, List, [], ◌∷◌, ◌++◌, length, drop, Option, Some, None, ◌⊎◌, ⊎_elim, ◌↔◌, refl, sym, ap, subst, ◌∙◌, arith}
+use Rattle.std.specs.Prelude.{All, IfSome, IfOk, IsTrue, Result, Ok, Err}
+use Rattle.std.specs.declared.alloc.AllocError.{AllocError}
+use Rattle.std.proofs.lemmas.Bool.{eqb-true, eq-eqb}
+use lib.Dec.{eqb}
+use Rattle.std.proofs.lemmas.List.{append_assoc, append-nil, length-append, drop-map}
 use Rattle.std.proofs.lemmas.List.Elements.{All-nil, All-cons, All-head, All-tail, All-push}
 use Rattle.std.proofs.Math.Seq.{drop-append_seam}
 use Rattle.prism_syntax.specs.declared.labels.Labels.{Labels}
 use Rattle.prism_syntax.specs.declared.tokens.Kind.{Kind}
 use Rattle.prism_syntax.specs.declared.tokens.Kind.TheVariants as k
+use Rattle.prism_syntax.specs.declared.tokens.Token.{Token}
 use Rattle.prism_syntax.specs.declared.expressions.Expr.{Expr}
 use Rattle.prism_syntax.specs.declared.precedence.Precedence.TheVariants as rule
+use Rattle.prism_syntax.specs.Tokens.{kinds}
 use Rattle.prism_syntax.specs.Expressions.{Derives}
+use Rattle.prism_reading.specs.Reading.{Anything, Fails}
+use Rattle.prism_reading.proofs.DefiniteLemmas.{kinds_cut}
+use Rattle.prism_expression.specs.Follow.{GoesOn}
+use Rattle.prism_expression.specs.Longest.{ParsesLongest}
+use Rattle.prism_expression.proofs.CompareLemmas.{compared}
+use Rattle.prism_limits.specs.Places.{IsFirst}
 use Rattle.prism_limits.specs.Words.{EndsInRewards}
 use Rattle.prism_limits.specs.Arrows.{IsLaterArrow}
 use Rattle.prism_limits.specs.ChainWalk.{Place, step, walk, start, last_after, around_after, innermost, outermost, may_stand_in_operand, is_arrow, begins_arrow}
 use Rattle.prism_limits.specs.ArrowWalk.{HasArrowAt, IsAt, TellsOperand, TellsLater}
-use Rattle.prism_limits.proofs.PlaceLemmas.{same_cut}
+use Rattle.prism_limits.proofs.PlaceLemmas.{same_cut, Walks, cuts_start, cuts_within, walk_next, walk_found, walk_none, length-kinds}
 use Rattle.prism_limits.proofs.RewardsLemmas.{Knows, starts_outside, inside_next}
 use Rattle.prism_limits.proofs.ChainWalkLemmas.{walk_append, step_outside, text_keeps}
 
@@ -179,7 +190,7 @@ last_is : (place : Place) (before : List Kind) (t : Kind) → place.inside ≡ f
 last_is place before k.Implies out at = record { before = before; after = []; cut = refl; count = refl; outside = λ ends. let is = (place_knows at).1 ends in cc }
 last_is place before k.Open out at = tt
 last_is place before k.Close out at = grown_one before k.Close (innermost place.around) (innermost_is before place.around at.around)
-last_is place before t out at = kept_or_none before (may_stand_in_operand t) place.last (grown_one before t place.last at.last)
+last_is place before t out at = kept_or_none (before ++ (t ∷ [])) (may_stand_in_operand t) place.last (grown_one before t place.last at.last)
 
 -- those around after one more token
 around_are : (place : Place) (before : List Kind) (t : Kind) → IsAt place before → All (IsArrow (before ++ (t ∷ []))) (around_after place t)
@@ -208,3 +219,96 @@ next_place {place = place} {next = next} {before = before} t at next_is =
 -- the place before all tokens
 pub start_place : IsAt start []
 start_place = record { walked = refl; last = tt; around = All-nil (IsArrow []) }
+
+-- what parsing an operand tells: the tokens before an arrow are one operand where as many are left
+pub operand_told : {labels : Labels} {tokens longest : List Token} {tree : Expr} {left : ℕ} (rest : List Token) → ParsesLongest labels rule.Equivalence tokens tree longest left
+    → TellsOperand labels (kinds tokens) (kinds rest) (eqb (length longest) (length rest))
+operand_told {labels = labels} {tokens = tokens} {longest = longest} {tree = tree} rest told operand cut begins =
+    let parsed = kinds_cut told.parses in
+    let front = kinds told.parses.prefix in
+    let rest_size = length-kinds rest in
+    let longest_size = length-kinds longest in
+    let parts : length (operand ++ kinds rest) ≡ length operand + length (kinds rest) = length-append operand (kinds rest) in
+    let others : length (front ++ kinds longest) ≡ length front + length (kinds longest) = length-append front (kinds longest) in
+    let whole : operand ++ kinds rest ≡ front ++ kinds longest = sym cut ∙ parsed in
+    let sizes : length (operand ++ kinds rest) ≡ length (front ++ kinds longest) = ap length whole in (
+      λ is.
+        let size : length longest ≡ length rest = eqb-true (length longest) (length rest) is in
+        let same = same_cut operand front (kinds rest) (kinds longest) whole (omega arith) in
+        (tree, subst (λ ts. Derives labels rule.Equivalence ts tree) (sym same.0) told.parses.text),
+      λ text.
+        let least = told.longest operand (kinds rest) text.0 cut text.1 in
+        let size : length longest ≡ length rest = ⊎_elim
+            (λ equal. let equal_sizes : length (kinds rest) ≡ length (kinds longest) = ap length equal.1 in omega arith)
+            (λ goes. absurd (arrow_stops (kinds rest) begins goes))
+            (compared (kinds rest) (kinds longest) text.1 told.parses.text whole (omega arith)) in
+        eq-eqb (length longest) (length rest) size,
+    )
+  where
+    arrow_stops : (ts : List Kind) → begins_arrow ts ≡ true → GoesOn rule.Equivalence ts → ⊥
+    arrow_stops [] begins goes = goes
+    arrow_stops (k.Implies ∷ ts) begins goes = absurd (cc)
+    arrow_stops (_ ∷ ts) begins goes = absurd (cc)
+
+-- and where the tokens begin with no operand they are none
+pub no_operand : {labels : Labels} {tokens : List Token} (rest : List Kind) {left : ℕ} → Fails (Derives labels rule.Equivalence) Anything tokens left → TellsOperand labels (kinds tokens) rest false
+no_operand rest fails operand cut begins = (λ is. absurd (cc), λ text. absurd (fails.none operand rest text.0 cut text.1 tt))
+
+-- what is told of the operand is told of the arrow
+pub later_answer : (labels : Labels) (tokens asked rest : List Token) (place : Place) {index : ℕ} (answer : Result Bool AllocError) → place.last ≡ Some index → true ≡ begins_arrow (kinds rest)
+    → asked ≡ drop (index + 1) tokens → IfOk answer (TellsOperand labels (kinds asked) (kinds rest)) → IfOk answer (TellsLater labels place (kinds tokens) (kinds rest))
+later_answer labels tokens asked rest place {index = index} (Ok found) last_is begins back tells =
+    let same = ap kinds back ∙ sym (drop-map (λ (t : Token). t.kind) (index + 1) tokens) in
+    later_told found last_is (sym begins) (subst (λ ts. TellsOperand labels ts (kinds rest) found) same tells)
+later_answer labels tokens asked rest place (Err fault) last_is begins back tells = tt
+
+-- a walk that looks for later arrows
+abbrev pub Looks : Labels → Place → List Kind → List Kind → ℕ → Type 0
+Looks labels place tokens rest index = Walks (IsAt place) (IsLaterArrow labels tokens) tokens rest index
+
+-- where it begins
+pub look_start : (labels : Labels) (tokens : List Kind) → Looks labels start tokens tokens 0
+look_start labels tokens = record { before = []; cuts = cuts_start tokens; known = start_place; none = λ other below _. absurd (omega arith) }
+
+-- what is told of the token at its place
+here : {labels : Labels} {place : Place} {tokens rest : List Kind} {index : ℕ} (answer : Bool) (walk : Looks labels place tokens rest index) → TellsLater labels place tokens rest answer
+    → IsTrue answer ↔ IsLaterArrow labels tokens index
+here {labels = labels} {tokens = tokens} answer walk tells = subst (λ n. IsTrue answer ↔ IsLaterArrow labels tokens n) walk.cuts.count (tells walk.before walk.known walk.cuts.cut)
+
+-- the walk goes on past a token that is no later arrow
+pub look_next : {labels : Labels} {place next : Place} {tokens rest : List Kind} {token : Kind} {index : ℕ} (answer : Bool) → Looks labels place tokens (token ∷ rest) index
+    → TellsLater labels place tokens (token ∷ rest) answer → answer ≡ false → next ≡ step place index token → Looks labels next tokens rest (index + 1)
+look_next {place = place} {token = token} answer walk tells none next_is =
+    walk_next walk (λ later. let is = (here answer walk tells).1 later in cc) (next_place token walk.known (next_is ∙ ap (λ n. step place n token) (sym walk.cuts.count)))
+
+-- it has come to one
+pub look_found : {labels : Labels} {place : Place} {tokens rest : List Kind} {index : ℕ} (answer : Bool) → Looks labels place tokens rest index → TellsLater labels place tokens rest answer → answer ≡ true
+    → IsFirst (IsLaterArrow labels tokens) index
+look_found answer walk tells is = walk_found walk ((here answer walk tells).0 is)
+
+-- a later arrow stands among the tokens
+later_within : {labels : Labels} {tokens : List Kind} (index : ℕ) → IsLaterArrow labels tokens index → index < length tokens
+later_within {tokens = tokens} index later =
+    let all : length tokens ≡ length (later.before ++ (k.Implies ∷ (later.operand ++ (k.Implies ∷ later.after)))) = ap length later.cut in
+    let parts = length-append later.before (k.Implies ∷ (later.operand ++ (k.Implies ∷ later.after))) in
+    let others = length-append later.operand (k.Implies ∷ later.after) in
+    let count = later.count in
+    omega arith
+
+-- it has come to the end
+pub look_none : {labels : Labels} {place : Place} {tokens : List Kind} {index : ℕ} → Looks labels place tokens [] index → (other : ℕ) → IsLaterArrow labels tokens other → ⊥
+look_none walk = walk_none walk later_within
+
+-- the last arrow that the walk keeps stands among the tokens
+pub last_within : {labels : Labels} {place : Place} {rest : List Kind} {index : ℕ} (tokens : List Token) → Looks labels place (kinds tokens) rest index → IfSome place.last (λ i. i < length tokens)
+last_within {place = place} tokens walk = within place.last walk.known.last
+  where
+    within : (one : Option ℕ) → IsArrow walk.before one → IfSome one (λ i. i < length tokens)
+    within None is = tt
+    within (Some i) is =
+        let all = cuts_within walk.cuts in
+        let size = length-kinds tokens in
+        let parts : length walk.before ≡ length (is.before ++ (k.Implies ∷ is.after)) = ap length is.cut in
+        let others = length-append is.before (k.Implies ∷ is.after) in
+        let count = is.count in
+        omega arith

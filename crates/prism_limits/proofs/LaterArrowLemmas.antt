@@ -16,7 +16,7 @@ use Rattle.prism_syntax.specs.Precedence.{inner, operator, atom, function}
 use Rattle.prism_syntax.specs.Expressions.{Derives, chain, bare, sign, plain, conditional, leaf, paren, call, ChainTail, end, link, Arguments, last, argument, level}
 use Rattle.prism_expression.specs.Follow.{goes_on, Ends}
 use Rattle.prism_expression.proofs.RankLemmas.{SignOf, bang, dash, sign_of, false_true, inner_binds, goes_on_less, operator_chain, operand_stops}
-use Rattle.prism_limits.proofs.OperandLemmas.{same_operand}
+use Rattle.prism_expression.proofs.CompareLemmas.{agreed}
 use Rattle.prism_limits.specs.Arrows.{HasLongChain, OneHasLongChain, arrows, in_operand, in_argument, in_paren, in_condition, in_consequence, in_alternative, in_first, in_later, IsLaterArrow}
 use Rattle.prism_limits.specs.ChainWalk.{is_arrow, begins_arrow}
 use Rattle.prism_limits.proofs.ArrowPlaceLemmas.{HasArrow, AfterArrow, after_raised, no_arrow, in_parts, in_cons, in_tail, in_one}
@@ -171,5 +171,5 @@ mutual
 pub later_long : {q : Labels} {ks : List Kind} {x : Expr} {index : ℕ} → Derives q rule.Conditional ks x → IsLaterArrow q ks index → HasLongChain x
 later_long text arrow =
     let next : AfterArrow _ _ _ = after_text [] (arrow.operand ++ (k.Implies ∷ arrow.after)) text tt (arrow.before, arrow.cut) in
-    let same = same_operand next.tail (k.Implies ∷ arrow.after) next.text arrow.text next.ends refl (sym next.cut ∙ append-nil (arrow.operand ++ (k.Implies ∷ arrow.after))) in
+    let same = agreed next.text arrow.text (sym next.cut ∙ append-nil (arrow.operand ++ (k.Implies ∷ arrow.after))) next.ends refl in
     next.long (ap begins_arrow same.1)

@@ -5,7 +5,6 @@ pub mod WordLemmas
 pub mod RunLemmas
 pub mod QueryLemmas
 pub mod NestingLemmas
-pub mod OperandLemmas
 pub mod ChainWalkLemmas
 pub mod ArrowWalkLemmas
 pub mod ArrowPlaceLemmas
