@@ -112,7 +112,7 @@ after_link {q = q} {l = l} {t = t} {op = op} {b = b} {y = y} a after found opera
 
 mutual
   -- what comes after an arrow of a text
-  after_text : {q : Labels} {l : Precedence} {ks : List Kind} {x : Expr} (after rest : List Kind) → Derives q l ks x → Ends l after → HasArrow ks rest → AfterArrow q (HasLongChain x) (rest ++ after)
+  pub after_text : {q : Labels} {l : Precedence} {ks : List Kind} {x : Expr} (after rest : List Kind) → Derives q l ks x → Ends l after → HasArrow ks rest → AfterArrow q (HasLongChain x) (rest ++ after)
   after_text after rest (chain {a = a} {b = b} {x = x} {ys = ys} {os = os} is_true operand links) ends arrow =
       in_parts a b after rest arrow
       (λ outer_rest here. after_raised (level_first ys os) (after_text (b ++ after) outer_rest operand (links_end after links ends) here))

@@ -26,7 +26,7 @@ pub record HasTwoArrows (q : Labels) (ks : List Kind) : Type 0 where
   pub text : Derives q rule.Equivalence operand tree
 
 -- so they do where more tokens follow
-two_front : {q : Labels} {a : List Kind} (b : List Kind) → HasTwoArrows q a → HasTwoArrows q (a ++ b)
+pub two_front : {q : Labels} {a : List Kind} (b : List Kind) → HasTwoArrows q a → HasTwoArrows q (a ++ b)
 two_front b two = record {
   before = two.before;
   operand = two.operand;
@@ -39,7 +39,7 @@ two_front b two = record {
 }
 
 -- and where more stand before
-two_rest : {q : Labels} (a : List Kind) {b : List Kind} → HasTwoArrows q b → HasTwoArrows q (a ++ b)
+pub two_rest : {q : Labels} (a : List Kind) {b : List Kind} → HasTwoArrows q b → HasTwoArrows q (a ++ b)
 two_rest a two = record {
   before = a ++ two.before;
   operand = two.operand;
@@ -49,7 +49,7 @@ two_rest a two = record {
   text = two.text;
 }
 
-two_tail : {q : Labels} (t : Kind) {b : List Kind} → HasTwoArrows q b → HasTwoArrows q (t ∷ b)
+pub two_tail : {q : Labels} (t : Kind) {b : List Kind} → HasTwoArrows q b → HasTwoArrows q (t ∷ b)
 two_tail t two = two_rest (t ∷ []) two
 
 -- a long chain of the tree of a chain is one of its first operand, one of another, or the chain itself
