@@ -2,32 +2,35 @@
 use Rattle.std.proofs.Common.{◌≡◌, ℕ, Bool, true, false, List, [], ◌∷◌, ◌++◌, Some, refl, sym, ap, subst, ◌∙◌}
 use Rattle.std.proofs.lemmas.List.{append_assoc, append-nil}
 use Rattle.std.proofs.lemmas.Option.{none-some}
+use Rattle.prism_syntax.specs.declared.labels.Labels.{Labels}
+use Rattle.prism_syntax.specs.declared.labels.Labels.TheVariants.{Allowed, Refused}
 use Rattle.prism_syntax.specs.declared.tokens.Kind.{Kind}
 use Rattle.prism_syntax.specs.declared.tokens.Kind.TheVariants as k
 use Rattle.prism_syntax.specs.declared.expressions.Expr.{Expr}
 use Rattle.prism_syntax.specs.declared.expressions.Func.{Func}
 use Rattle.prism_syntax.specs.declared.expressions.Op.{Op}
 use Rattle.prism_syntax.specs.declared.expressions.Op.TheVariants as o
-use Rattle.prism_syntax.specs.declared.lines.Line.{Line}
-use Rattle.prism_syntax.specs.declared.lines.Line.TheVariants as line
-use Rattle.prism_syntax.specs.Lines.{inner, operator, atom, function}
-use Rattle.prism_syntax.specs.Expressions.{In, chain, bare, sign, plain, choice, leaf, paren, call, Links, end, link, More, last, part, level}
+use Rattle.prism_syntax.specs.declared.precedence.Precedence.{Precedence}
+use Rattle.prism_syntax.specs.declared.precedence.Precedence.TheVariants as rule
+use Rattle.prism_syntax.specs.Precedence.{inner, operator, atom, function}
+use Rattle.prism_syntax.specs.Expressions.{Derives, chain, bare, sign, plain, conditional, leaf, paren, call, ChainTail, end, link, Arguments, last, argument, level}
 use Rattle.prism_expression.specs.Follow.{goes_on, Ends}
 use Rattle.prism_expression.proofs.RankLemmas.{SignOf, bang, dash, sign_of, false_true, inner_binds, goes_on_less, operator_chain, operand_stops}
-use Rattle.prism_expression.proofs.CompareLemmas.{closed, ended}
-use Rattle.prism_limits.specs.Arrows.{HasLongChain, OneHasLongChain, arrows, in_operand, in_argument, in_paren, in_condition, in_consequence, in_alternative, in_first, in_later, is_arrow, begins_arrow, IsLaterArrow}
+use Rattle.prism_expression.proofs.CompareLemmas.{agreed}
+use Rattle.prism_limits.specs.Arrows.{HasLongChain, OneHasLongChain, arrows, in_operand, in_argument, in_paren, in_condition, in_consequence, in_alternative, in_first, in_later, IsLaterArrow}
+use Rattle.prism_limits.specs.ChainWalk.{is_arrow, begins_arrow}
 use Rattle.prism_limits.proofs.ArrowPlaceLemmas.{HasArrow, AfterArrow, after_raised, no_arrow, in_parts, in_cons, in_tail, in_one}
 use Rattle.prism_limits.proofs.LongChainLemmas.{first_or_later, level_first, sign_long, implication_operator, arrow_line}
 
 -- no sign is an arrow
-sign_other : {l : Line} {t : Kind} → SignOf l t → is_arrow t ≡ false
+sign_other : {l : Precedence} {t : Kind} → SignOf l t → is_arrow t ≡ false
 sign_other bang = refl
 sign_other dash = refl
 
 -- nor is a token that is an expression by itself
-atom_other : (q : Bool) (t : Kind) (x : Expr) → atom q t ≡ Some x → is_arrow t ≡ false
-atom_other true k.Implies x found = absurd (none-some x found)
-atom_other false k.Implies x found = absurd (none-some x found)
+atom_other : (q : Labels) (t : Kind) (x : Expr) → atom q t ≡ Some x → is_arrow t ≡ false
+atom_other Allowed k.Implies x found = absurd (none-some x found)
+atom_other Refused k.Implies x found = absurd (none-some x found)
 atom_other _ _ x found = refl
 
 -- nor the name of a function
@@ -36,7 +39,7 @@ function_other k.Implies f found = absurd (none-some f found)
 function_other _ f found = refl
 
 -- a token goes on a text or does not
-ends_where : (l : Line) (t : Kind) → (goes_on l t ≡ true → ⊥) → goes_on l t ≡ false
+ends_where : (l : Precedence) (t : Kind) → (goes_on l t ≡ true → ⊥) → goes_on l t ≡ false
 ends_where l t stops = bool_false (goes_on l t) stops
   where
     bool_false : (b : Bool) → (b ≡ true → ⊥) → b ≡ false
@@ -44,47 +47,47 @@ ends_where l t stops = bool_false (goes_on l t) stops
     bool_false false not = refl
 
 -- what does not go on a text does not go on an operand of it
-ends_inner : (l : Line) (ts : List Kind) → Ends l ts → Ends (inner l) ts
+ends_inner : (l : Precedence) (ts : List Kind) → Ends l ts → Ends (inner l) ts
 ends_inner l [] ends = ends
 ends_inner l (t ∷ ts) ends = ends_where (inner l) t (λ goes. false_true (sym ends ∙ goes_on_less l (inner l) (t ∷ ts) (inner_binds l) goes))
 
 -- what comes after an operand of a chain does not go on it
-links_end : {q : Bool} {l : Line} {b : List Kind} {ys : List Expr} {os : List Op} (after : List Kind) → Links q l b ys os → Ends l after → Ends (inner l) (b ++ after)
+links_end : {q : Labels} {l : Precedence} {b : List Kind} {ys : List Expr} {os : List Op} (after : List Kind) → ChainTail q l b ys os → Ends l after → Ends (inner l) (b ++ after)
 links_end {l = l} after end ends = ends_inner l after ends
 links_end {l = l} after (link {t = t} {o = op} found operand links) ends = ends_where (inner l) t (operand_stops l t op (operator_chain l t op found) found)
 
--- what comes after a part of a call does not go on it
-parts_end : {q : Bool} {b : List Kind} {ys : List Expr} (after : List Kind) → More q b ys → Ends line.Choice after → Ends line.Choice (b ++ after)
+-- what comes after a argument of a call does not go on it
+parts_end : {q : Labels} {b : List Kind} {ys : List Expr} (after : List Kind) → Arguments q b ys → Ends rule.Conditional after → Ends rule.Conditional (b ++ after)
 parts_end after last ends = ends
-parts_end after (part first parts) ends = refl
+parts_end after (argument first parts) ends = refl
 
 -- links of which two or more are arrows, or of which an operand has a long chain
-data LongLinks (l : Line) : List Expr → List Op → Type 0 where
+data LongLinks (l : Precedence) : List Expr → List Op → Type 0 where
   within : (ys : List Expr) (os : List Op) → OneHasLongChain ys → LongLinks l ys os
-  both : (y : Expr) (ys : List Expr) (os : List Op) → l ≡ line.Implication → LongLinks l (y ∷ ys) (o.Imp ∷ (o.Imp ∷ os))
+  both : (y : Expr) (ys : List Expr) (os : List Op) → l ≡ rule.Implication → LongLinks l (y ∷ ys) (o.Imp ∷ (o.Imp ∷ os))
 
 -- their chain is long
-long_level : {l : Line} {ys : List Expr} {os : List Op} (x : Expr) → LongLinks l ys os → HasLongChain (level x ys os)
+long_level : {l : Precedence} {ys : List Expr} {os : List Op} (x : Expr) → LongLinks l ys os → HasLongChain (level x ys os)
 long_level x (within [] os one) = absurd (first_or_later one)
 long_level x (within (y ∷ ys) os one) = in_operand (x ∷ (y ∷ ys)) os (in_later x (y ∷ ys) one)
 long_level x (both y ys os is) = arrows (x ∷ (y ∷ ys)) os
 
 -- one more link before them
-long_link : {l : Line} {op : Op} {ys : List Expr} {os : List Op} (t : Kind) (y : Expr) → operator l t ≡ Some op → LongLinks l ys os → LongLinks l (y ∷ ys) (op ∷ os)
+long_link : {l : Precedence} {op : Op} {ys : List Expr} {os : List Op} (t : Kind) (y : Expr) → operator l t ≡ Some op → LongLinks l ys os → LongLinks l (y ∷ ys) (op ∷ os)
 long_link {op = op} t y found (within ys os one) = within (y ∷ ys) (op ∷ os) (in_later y ys one)
 long_link {l = l} {op = op} t y found (both z ys os is) =
     let same : op ≡ o.Imp = implication_operator t op (ap (λ m. operator m t) (sym is) ∙ found) in
     subst (λ p. LongLinks l (y ∷ (z ∷ ys)) (p ∷ (o.Imp ∷ (o.Imp ∷ os)))) (sym same) (both y (z ∷ ys) (o.Imp ∷ os) is)
 
 -- what does not go on an implication does not begin with an arrow
-ends_no_arrow : {l : Line} (after : List Kind) → l ≡ line.Implication → Ends l after → begins_arrow after ≡ true → ⊥
+ends_no_arrow : {l : Precedence} (after : List Kind) → l ≡ rule.Implication → Ends l after → begins_arrow after ≡ true → ⊥
 ends_no_arrow [] is ends begins = false_true begins
 ends_no_arrow (k.Implies ∷ ts) is ends begins = false_true (sym ends ∙ ap (λ m. goes_on m k.Implies) is)
 ends_no_arrow (_ ∷ ts) is ends begins = false_true begins
 
 -- where another arrow comes after the operand of an arrow, two links are arrows
-links_long : {q : Bool} {l : Line} {op : Op} {b : List Kind} {ys : List Expr} {os : List Op} (t : Kind) (y : Expr) (after : List Kind)
-    → operator l t ≡ Some op → l ≡ line.Implication → Links q l b ys os → Ends l after → begins_arrow (b ++ after) ≡ true → LongLinks l (y ∷ ys) (op ∷ os)
+links_long : {q : Labels} {l : Precedence} {op : Op} {b : List Kind} {ys : List Expr} {os : List Op} (t : Kind) (y : Expr) (after : List Kind)
+    → operator l t ≡ Some op → l ≡ rule.Implication → ChainTail q l b ys os → Ends l after → begins_arrow (b ++ after) ≡ true → LongLinks l (y ∷ ys) (op ∷ os)
 links_long t y after found is end ends begins = absurd (ends_no_arrow after is ends begins)
 links_long {l = l} {op = op} t y after found is (link {t = u} {o = other} {y = z} {ys = ys} {os = os} found_next next links) ends begins =
     let one : op ≡ o.Imp = implication_operator t op (ap (λ m. operator m t) (sym is) ∙ found) in
@@ -93,23 +96,23 @@ links_long {l = l} {op = op} t y after found is (link {t = u} {o = other} {y = z
     (subst (λ p. LongLinks l (y ∷ (z ∷ ys)) (o.Imp ∷ (p ∷ os))) (sym more) (both y (z ∷ ys) os is))
 
 -- what comes after the arrow of a link
-after_link : {q : Bool} {l : Line} {t : Kind} {op : Op} {b : List Kind} {y : Expr} {ys : List Expr} {os : List Op} (a after : List Kind)
-    → operator l t ≡ Some op → In q (inner l) a y → Links q l b ys os → Ends l after → t ≡ k.Implies → AfterArrow q (LongLinks l (y ∷ ys) (op ∷ os)) ((a ++ b) ++ after)
+after_link : {q : Labels} {l : Precedence} {t : Kind} {op : Op} {b : List Kind} {y : Expr} {ys : List Expr} {os : List Op} (a after : List Kind)
+    → operator l t ≡ Some op → Derives q (inner l) a y → ChainTail q l b ys os → Ends l after → t ≡ k.Implies → AfterArrow q (LongLinks l (y ∷ ys) (op ∷ os)) ((a ++ b) ++ after)
 after_link {q = q} {l = l} {t = t} {op = op} {b = b} {y = y} a after found operand links ends arrow =
-    let is : l ≡ line.Implication = arrow_line l op (ap (operator l) (sym arrow) ∙ found) in
+    let is : l ≡ rule.Implication = arrow_line l op (ap (operator l) (sym arrow) ∙ found) in
     record {
       operand = a;
       tail = b ++ after;
       tree = y;
       cut = append_assoc a b after;
-      text = subst (λ m. In q (inner m) a y) is operand;
+      text = subst (λ m. Derives q (inner m) a y) is operand;
       ends = subst (λ m. Ends (inner m) (b ++ after)) is (links_end after links ends);
       long = links_long t y after found is links ends;
     }
 
 mutual
   -- what comes after an arrow of a text
-  after_text : {q : Bool} {l : Line} {ks : List Kind} {x : Expr} (after rest : List Kind) → In q l ks x → Ends l after → HasArrow ks rest → AfterArrow q (HasLongChain x) (rest ++ after)
+  pub after_text : {q : Labels} {l : Precedence} {ks : List Kind} {x : Expr} (after rest : List Kind) → Derives q l ks x → Ends l after → HasArrow ks rest → AfterArrow q (HasLongChain x) (rest ++ after)
   after_text after rest (chain {a = a} {b = b} {x = x} {ys = ys} {os = os} is_true operand links) ends arrow =
       in_parts a b after rest arrow
       (λ outer_rest here. after_raised (level_first ys os) (after_text (b ++ after) outer_rest operand (links_end after links ends) here))
@@ -118,8 +121,8 @@ mutual
   after_text {l = l} after rest (sign {t = t} {a = a} is_true operand) ends arrow =
       in_tail t a after rest arrow (sign_other (sign_of l t is_true))
       (λ outer_rest there. after_raised (sign_long (sign_of l t is_true)) (after_text after outer_rest operand ends there))
-  after_text after rest (plain first) ends arrow = after_text after rest first (ends_inner line.Choice after ends) arrow
-  after_text after rest (choice {a = a} {b = b} {c = c} {x = x} {y = y} {z = z} one second third) ends arrow =
+  after_text after rest (plain first) ends arrow = after_text after rest first (ends_inner rule.Conditional after ends) arrow
+  after_text after rest (conditional {a = a} {b = b} {c = c} {x = x} {y = y} {z = z} one second third) ends arrow =
       in_parts a (k.Query ∷ (b ++ (k.Colon ∷ c))) after rest arrow
       (λ outer_rest here. after_raised (in_condition x y z) (after_text ((k.Query ∷ (b ++ (k.Colon ∷ c))) ++ after) outer_rest one refl here))
       (λ outer_rest there. in_tail k.Query (b ++ (k.Colon ∷ c)) after outer_rest there refl
@@ -139,13 +142,13 @@ mutual
       (λ middle_rest others. in_parts a (b ++ (k.Close ∷ [])) after middle_rest others
       (λ inner_rest here. after_raised (λ long. in_argument f (x ∷ ys) (in_first x ys long))
       (after_text ((b ++ (k.Close ∷ [])) ++ after) inner_rest one
-      (subst (Ends line.Choice) (sym (append_assoc b (k.Close ∷ []) after)) (parts_end (k.Close ∷ after) parts refl)) here))
+      (subst (Ends rule.Conditional) (sym (append_assoc b (k.Close ∷ []) after)) (parts_end (k.Close ∷ after) parts refl)) here))
       (λ inner_rest beyond. in_parts b (k.Close ∷ []) after inner_rest beyond
       (λ inmost_rest here. after_raised (λ one_of. in_argument f (x ∷ ys) (in_later x ys one_of)) (after_parts (k.Close ∷ after) inmost_rest parts refl here))
       (λ inmost_rest closing. in_one k.Close after inmost_rest closing refl))))
 
   -- of links
-  after_links : {q : Bool} {l : Line} {b : List Kind} {ys : List Expr} {os : List Op} (after rest : List Kind) → Links q l b ys os → Ends l after → HasArrow b rest
+  after_links : {q : Labels} {l : Precedence} {b : List Kind} {ys : List Expr} {os : List Op} (after rest : List Kind) → ChainTail q l b ys os → Ends l after → HasArrow b rest
       → AfterArrow q (LongLinks l ys os) (rest ++ after)
   after_links after rest end ends arrow = absurd (no_arrow rest arrow)
   after_links after rest (link {t = t} {o = op} {a = a} {b = b} {y = y} {ys = ys} {os = os} found operand links) ends arrow =
@@ -156,17 +159,17 @@ mutual
       (λ middle_rest beyond. after_raised (long_link t y found) (after_links after middle_rest links ends beyond)))
 
   -- and of parts of a call
-  after_parts : {q : Bool} {b : List Kind} {ys : List Expr} (after rest : List Kind) → More q b ys → Ends line.Choice after → HasArrow b rest → AfterArrow q (OneHasLongChain ys) (rest ++ after)
+  after_parts : {q : Labels} {b : List Kind} {ys : List Expr} (after rest : List Kind) → Arguments q b ys → Ends rule.Conditional after → HasArrow b rest → AfterArrow q (OneHasLongChain ys) (rest ++ after)
   after_parts after rest last ends arrow = absurd (no_arrow rest arrow)
-  after_parts after rest (part {a = a} {b = b} {y = y} {ys = ys} one parts) ends arrow =
+  after_parts after rest (argument {a = a} {b = b} {y = y} {ys = ys} one parts) ends arrow =
       in_tail k.Comma (a ++ b) after rest arrow refl
       (λ outer_rest there. in_parts a b after outer_rest there
       (λ middle_rest here. after_raised (in_first y ys) (after_text (b ++ after) middle_rest one (parts_end after parts ends) here))
       (λ middle_rest beyond. after_raised (in_later y ys) (after_parts after middle_rest parts ends beyond)))
 
 -- a later arrow stands in the tokens of a tree with a long chain
-pub later_long : {q : Bool} {ks : List Kind} {x : Expr} {number : ℕ} → In q line.Choice ks x → IsLaterArrow q ks number → HasLongChain x
+pub later_long : {q : Labels} {ks : List Kind} {x : Expr} {index : ℕ} → Derives q rule.Conditional ks x → IsLaterArrow q ks index → HasLongChain x
 later_long text arrow =
     let next : AfterArrow _ _ _ = after_text [] (arrow.operand ++ (k.Implies ∷ arrow.after)) text tt (arrow.before, arrow.cut) in
-    let longest = ended next.text (sym (append-nil (arrow.operand ++ (k.Implies ∷ arrow.after))) ∙ next.cut) next.ends in
-    next.long (ap begins_arrow (closed longest refl arrow.text refl).0)
+    let same = agreed next.text arrow.text (sym next.cut ∙ append-nil (arrow.operand ++ (k.Implies ∷ arrow.after))) next.ends refl in
+    next.long (ap begins_arrow same.1)

@@ -5,8 +5,8 @@ pub mod WordLemmas
 pub mod RunLemmas
 pub mod QueryLemmas
 pub mod NestingLemmas
-pub mod ArrowLemmas
-pub mod ChainLemmas
+pub mod ChainWalkLemmas
+pub mod ArrowWalkLemmas
 pub mod ArrowPlaceLemmas
 pub mod LongChainLemmas
 pub mod TwoArrowLemmas

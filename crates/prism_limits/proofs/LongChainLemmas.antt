@@ -1,6 +1,8 @@
 -- The trees in which a chain has two or more arrows, and the operators of chains of arrows.
 use Rattle.std.proofs.Common.{◌≡◌, Bool, true, false, List, [], ◌∷◌, ◌⊎◌, inl, inr, Some, refl, sym, ap, subst, ◌∙◌}
 use Rattle.std.proofs.lemmas.Option.{none-some}
+use Rattle.prism_syntax.specs.declared.labels.Labels.{Labels}
+use Rattle.prism_syntax.specs.declared.labels.Labels.TheVariants.{Allowed, Refused}
 use Rattle.prism_syntax.specs.declared.tokens.Kind.{Kind}
 use Rattle.prism_syntax.specs.declared.tokens.Kind.TheVariants as k
 use Rattle.prism_syntax.specs.declared.expressions.Expr.{Expr, out-Expr}
@@ -11,9 +13,9 @@ use Rattle.prism_syntax.specs.declared.expressions.Expr.TheOpen as top
 use Rattle.prism_syntax.specs.declared.expressions.Func.{Func}
 use Rattle.prism_syntax.specs.declared.expressions.Op.{Op}
 use Rattle.prism_syntax.specs.declared.expressions.Op.TheVariants as o
-use Rattle.prism_syntax.specs.declared.lines.Line.{Line}
-use Rattle.prism_syntax.specs.declared.lines.Line.TheVariants as line
-use Rattle.prism_syntax.specs.Lines.{operator, signed, atom}
+use Rattle.prism_syntax.specs.declared.precedence.Precedence.{Precedence}
+use Rattle.prism_syntax.specs.declared.precedence.Precedence.TheVariants as rule
+use Rattle.prism_syntax.specs.Precedence.{operator, signed, atom}
 use Rattle.prism_syntax.specs.Expressions.{level}
 use Rattle.prism_expression.proofs.RankLemmas.{SignOf, bang, dash}
 use Rattle.prism_expression.proofs.TwoTextLemmas.{some_same}
@@ -73,76 +75,76 @@ level_first [] os long = long
 level_first {x = x} (y ∷ ys) os long = in_operand (x ∷ (y ∷ ys)) os (in_first x (y ∷ ys) long)
 
 -- what a sign stands before has it
-pub sign_has : {l : Line} {t : Kind} {x : Expr} → SignOf l t → HasLongChain (signed l x) → HasLongChain x
+pub sign_has : {l : Precedence} {t : Kind} {x : Expr} → SignOf l t → HasLongChain (signed l x) → HasLongChain x
 sign_has {x = x} bang long = subst TopHas (outs-Not x) (top_has long)
 sign_has {x = x} dash long = subst TopHas (outs-Minus x) (top_has long)
 
 -- and so has what is made of it
-pub sign_long : {l : Line} {t : Kind} {x : Expr} → SignOf l t → HasLongChain x → HasLongChain (signed l x)
+pub sign_long : {l : Precedence} {t : Kind} {x : Expr} → SignOf l t → HasLongChain x → HasLongChain (signed l x)
 sign_long {x = x} bang long = in_not x long
 sign_long {x = x} dash long = in_minus x long
 
 -- a tree of one token has none
-pub leaf_has : (q : Bool) (t : Kind) (x : Expr) → atom q t ≡ Some x → HasLongChain x → ⊥
-leaf_has true (k.Whole value) x found long = subst TopHas (ap out-Expr (some_same (sym found)) ∙ outs-Whole value) (top_has long)
-leaf_has true (k.Real value) x found long = subst TopHas (ap out-Expr (some_same (sym found)) ∙ outs-Real value) (top_has long)
-leaf_has true k.True x found long = subst TopHas (ap out-Expr (some_same (sym found)) ∙ outs-Truth true) (top_has long)
-leaf_has true k.False x found long = subst TopHas (ap out-Expr (some_same (sym found)) ∙ outs-Truth false) (top_has long)
-leaf_has true (k.Name text) x found long = subst TopHas (ap out-Expr (some_same (sym found)) ∙ outs-Name text) (top_has long)
-leaf_has true (k.Quoted text) x found long = subst TopHas (ap out-Expr (some_same (sym found)) ∙ outs-Quoted text) (top_has long)
-leaf_has true _ x found long = absurd (none-some x found)
-leaf_has false (k.Whole value) x found long = subst TopHas (ap out-Expr (some_same (sym found)) ∙ outs-Whole value) (top_has long)
-leaf_has false (k.Real value) x found long = subst TopHas (ap out-Expr (some_same (sym found)) ∙ outs-Real value) (top_has long)
-leaf_has false k.True x found long = subst TopHas (ap out-Expr (some_same (sym found)) ∙ outs-Truth true) (top_has long)
-leaf_has false k.False x found long = subst TopHas (ap out-Expr (some_same (sym found)) ∙ outs-Truth false) (top_has long)
-leaf_has false (k.Name text) x found long = subst TopHas (ap out-Expr (some_same (sym found)) ∙ outs-Name text) (top_has long)
-leaf_has false _ x found long = absurd (none-some x found)
+pub leaf_has : (q : Labels) (t : Kind) (x : Expr) → atom q t ≡ Some x → HasLongChain x → ⊥
+leaf_has Allowed (k.Whole value) x found long = subst TopHas (ap out-Expr (some_same (sym found)) ∙ outs-Whole value) (top_has long)
+leaf_has Allowed (k.Real value) x found long = subst TopHas (ap out-Expr (some_same (sym found)) ∙ outs-Real value) (top_has long)
+leaf_has Allowed k.True x found long = subst TopHas (ap out-Expr (some_same (sym found)) ∙ outs-Truth true) (top_has long)
+leaf_has Allowed k.False x found long = subst TopHas (ap out-Expr (some_same (sym found)) ∙ outs-Truth false) (top_has long)
+leaf_has Allowed (k.Name text) x found long = subst TopHas (ap out-Expr (some_same (sym found)) ∙ outs-Name text) (top_has long)
+leaf_has Allowed (k.Quoted text) x found long = subst TopHas (ap out-Expr (some_same (sym found)) ∙ outs-Quoted text) (top_has long)
+leaf_has Allowed _ x found long = absurd (none-some x found)
+leaf_has Refused (k.Whole value) x found long = subst TopHas (ap out-Expr (some_same (sym found)) ∙ outs-Whole value) (top_has long)
+leaf_has Refused (k.Real value) x found long = subst TopHas (ap out-Expr (some_same (sym found)) ∙ outs-Real value) (top_has long)
+leaf_has Refused k.True x found long = subst TopHas (ap out-Expr (some_same (sym found)) ∙ outs-Truth true) (top_has long)
+leaf_has Refused k.False x found long = subst TopHas (ap out-Expr (some_same (sym found)) ∙ outs-Truth false) (top_has long)
+leaf_has Refused (k.Name text) x found long = subst TopHas (ap out-Expr (some_same (sym found)) ∙ outs-Name text) (top_has long)
+leaf_has Refused _ x found long = absurd (none-some x found)
 
 -- the operator of an implication is the arrow
-pub implication_operator : (t : Kind) (op : Op) → operator line.Implication t ≡ Some op → op ≡ o.Imp
+pub implication_operator : (t : Kind) (op : Op) → operator rule.Implication t ≡ Some op → op ≡ o.Imp
 implication_operator k.Implies op found = some_same (sym found)
 implication_operator _ op found = absurd (none-some op found)
 
 -- the arrow is an operator of implications alone
-pub arrow_line : (l : Line) (op : Op) → operator l k.Implies ≡ Some op → l ≡ line.Implication
-arrow_line line.Implication op found = refl
-arrow_line line.Choice op found = absurd (none-some op found)
-arrow_line line.Equivalence op found = absurd (none-some op found)
-arrow_line line.Disjunction op found = absurd (none-some op found)
-arrow_line line.Conjunction op found = absurd (none-some op found)
-arrow_line line.Negation op found = absurd (none-some op found)
-arrow_line line.Equality op found = absurd (none-some op found)
-arrow_line line.Relation op found = absurd (none-some op found)
-arrow_line line.Sum op found = absurd (none-some op found)
-arrow_line line.Product op found = absurd (none-some op found)
-arrow_line line.Unary op found = absurd (none-some op found)
-arrow_line line.Primary op found = absurd (none-some op found)
+pub arrow_line : (l : Precedence) (op : Op) → operator l k.Implies ≡ Some op → l ≡ rule.Implication
+arrow_line rule.Implication op found = refl
+arrow_line rule.Conditional op found = absurd (none-some op found)
+arrow_line rule.Equivalence op found = absurd (none-some op found)
+arrow_line rule.Disjunction op found = absurd (none-some op found)
+arrow_line rule.Conjunction op found = absurd (none-some op found)
+arrow_line rule.Negation op found = absurd (none-some op found)
+arrow_line rule.Equality op found = absurd (none-some op found)
+arrow_line rule.Relation op found = absurd (none-some op found)
+arrow_line rule.Sum op found = absurd (none-some op found)
+arrow_line rule.Product op found = absurd (none-some op found)
+arrow_line rule.Unary op found = absurd (none-some op found)
+arrow_line rule.Primary op found = absurd (none-some op found)
 
 -- and no other token stands for it
-pub arrow_token : (l : Line) (t : Kind) → operator l t ≡ Some o.Imp → t ≡ k.Implies
-arrow_token line.Implication k.Implies found = refl
-arrow_token line.Implication _ found = absurd (none-some o.Imp found)
-arrow_token line.Choice _ found = absurd (none-some o.Imp found)
-arrow_token line.Equivalence k.Equivalent found = absurd (cc)
-arrow_token line.Equivalence _ found = absurd (none-some o.Imp found)
-arrow_token line.Disjunction k.Bar found = absurd (cc)
-arrow_token line.Disjunction _ found = absurd (none-some o.Imp found)
-arrow_token line.Conjunction k.Ampersand found = absurd (cc)
-arrow_token line.Conjunction _ found = absurd (none-some o.Imp found)
-arrow_token line.Negation _ found = absurd (none-some o.Imp found)
-arrow_token line.Equality k.Equal found = absurd (cc)
-arrow_token line.Equality k.NotEqual found = absurd (cc)
-arrow_token line.Equality _ found = absurd (none-some o.Imp found)
-arrow_token line.Relation k.Less found = absurd (cc)
-arrow_token line.Relation k.LessEqual found = absurd (cc)
-arrow_token line.Relation k.Greater found = absurd (cc)
-arrow_token line.Relation k.GreaterEqual found = absurd (cc)
-arrow_token line.Relation _ found = absurd (none-some o.Imp found)
-arrow_token line.Sum k.Plus found = absurd (cc)
-arrow_token line.Sum k.Dash found = absurd (cc)
-arrow_token line.Sum _ found = absurd (none-some o.Imp found)
-arrow_token line.Product k.Star found = absurd (cc)
-arrow_token line.Product k.Slash found = absurd (cc)
-arrow_token line.Product _ found = absurd (none-some o.Imp found)
-arrow_token line.Unary _ found = absurd (none-some o.Imp found)
-arrow_token line.Primary _ found = absurd (none-some o.Imp found)
+pub arrow_token : (l : Precedence) (t : Kind) → operator l t ≡ Some o.Imp → t ≡ k.Implies
+arrow_token rule.Implication k.Implies found = refl
+arrow_token rule.Implication _ found = absurd (none-some o.Imp found)
+arrow_token rule.Conditional _ found = absurd (none-some o.Imp found)
+arrow_token rule.Equivalence k.Equivalent found = absurd (cc)
+arrow_token rule.Equivalence _ found = absurd (none-some o.Imp found)
+arrow_token rule.Disjunction k.Bar found = absurd (cc)
+arrow_token rule.Disjunction _ found = absurd (none-some o.Imp found)
+arrow_token rule.Conjunction k.Ampersand found = absurd (cc)
+arrow_token rule.Conjunction _ found = absurd (none-some o.Imp found)
+arrow_token rule.Negation _ found = absurd (none-some o.Imp found)
+arrow_token rule.Equality k.Equal found = absurd (cc)
+arrow_token rule.Equality k.NotEqual found = absurd (cc)
+arrow_token rule.Equality _ found = absurd (none-some o.Imp found)
+arrow_token rule.Relation k.Less found = absurd (cc)
+arrow_token rule.Relation k.LessEqual found = absurd (cc)
+arrow_token rule.Relation k.Greater found = absurd (cc)
+arrow_token rule.Relation k.GreaterEqual found = absurd (cc)
+arrow_token rule.Relation _ found = absurd (none-some o.Imp found)
+arrow_token rule.Sum k.Plus found = absurd (cc)
+arrow_token rule.Sum k.Dash found = absurd (cc)
+arrow_token rule.Sum _ found = absurd (none-some o.Imp found)
+arrow_token rule.Product k.Star found = absurd (cc)
+arrow_token rule.Product k.Slash found = absurd (cc)
+arrow_token rule.Product _ found = absurd (none-some o.Imp found)
+arrow_token rule.Unary _ found = absurd (none-some o.Imp found)
+arrow_token rule.Primary _ found = absurd (none-some o.Imp found)

@@ -2,15 +2,17 @@
 use Rattle.std.proofs.Common.{◌≡◌, Bool, true, false, ◌&&◌, List, [], ◌∷◌, ◌++◌, Some, None, refl, sym, ap, ◌∙◌, subst}
 use Rattle.std.proofs.lemmas.List.{append_assoc}
 use Rattle.std.proofs.lemmas.Option.{none-some}
+use Rattle.prism_syntax.specs.declared.labels.Labels.{Labels}
+use Rattle.prism_syntax.specs.declared.labels.Labels.TheVariants.{Allowed, Refused}
 use Rattle.prism_syntax.specs.declared.tokens.Kind.{Kind}
 use Rattle.prism_syntax.specs.declared.tokens.Kind.TheVariants as k
 use Rattle.prism_syntax.specs.declared.expressions.Expr.{Expr}
 use Rattle.prism_syntax.specs.declared.expressions.Func.{Func}
 use Rattle.prism_syntax.specs.declared.expressions.Op.{Op}
-use Rattle.prism_syntax.specs.declared.lines.Line.{Line}
-use Rattle.prism_syntax.specs.declared.lines.Line.TheVariants as line
-use Rattle.prism_syntax.specs.Lines.{operator, is_sign, atom, function}
-use Rattle.prism_syntax.specs.Expressions.{In, chain, bare, sign, plain, choice, leaf, paren, call, Links, end, link, More, last, part}
+use Rattle.prism_syntax.specs.declared.precedence.Precedence.{Precedence}
+use Rattle.prism_syntax.specs.declared.precedence.Precedence.TheVariants as rule
+use Rattle.prism_syntax.specs.Precedence.{operator, is_sign, atom, function}
+use Rattle.prism_syntax.specs.Expressions.{Derives, chain, bare, sign, plain, conditional, leaf, paren, call, ChainTail, end, link, Arguments, last, argument}
 use Rattle.prism_expression.proofs.RankLemmas.{false_true}
 use Rattle.prism_limits.specs.Words.{EndsInRewards}
 
@@ -56,32 +58,32 @@ others_outside before after others ends =
     others_none ends.before (ends.inside ++ after) (subst (λ z. are_others z ≡ true) cut others)
 
 -- the word is no sign
-no_sign : (l : Line) → is_sign l k.Rewards ≡ false
-no_sign line.Negation = refl
+no_sign : (l : Precedence) → is_sign l k.Rewards ≡ false
+no_sign rule.Negation = refl
 no_sign _ = refl
 
 -- nor an operator
-no_operator : (l : Line) → operator l k.Rewards ≡ None
-no_operator line.Implication = refl
+no_operator : (l : Precedence) → operator l k.Rewards ≡ None
+no_operator rule.Implication = refl
 no_operator _ = refl
 
 -- nor an expression by itself
-no_atom : (q : Bool) → atom q k.Rewards ≡ None
-no_atom true = refl
-no_atom false = refl
+no_atom : (q : Labels) → atom q k.Rewards ≡ None
+no_atom Allowed = refl
+no_atom Refused = refl
 
 -- so a sign is another token
-pub sign_other : (l : Line) (t : Kind) → is_sign l t ≡ true → is_other t ≡ true
+pub sign_other : (l : Precedence) (t : Kind) → is_sign l t ≡ true → is_other t ≡ true
 sign_other l k.Rewards is = absurd (false_true (sym (no_sign l) ∙ is))
 sign_other l _ is = refl
 
 -- and so is an operator
-pub operator_other : (l : Line) (t : Kind) (o : Op) → operator l t ≡ Some o → is_other t ≡ true
+pub operator_other : (l : Precedence) (t : Kind) (o : Op) → operator l t ≡ Some o → is_other t ≡ true
 operator_other l k.Rewards o found = absurd (none-some o (sym (no_operator l) ∙ found))
 operator_other l _ o found = refl
 
 -- and an expression by itself
-pub atom_other : (q : Bool) (t : Kind) (x : Expr) → atom q t ≡ Some x → is_other t ≡ true
+pub atom_other : (q : Labels) (t : Kind) (x : Expr) → atom q t ≡ Some x → is_other t ≡ true
 atom_other q k.Rewards x found = absurd (none-some x (sym (no_atom q) ∙ found))
 atom_other q _ x found = refl
 
@@ -92,12 +94,12 @@ function_other _ f found = refl
 
 mutual
   -- no text of an expression has the word
-  pub text_others : {q : Bool} {l : Line} {ks : List Kind} {x : Expr} → In q l ks x → are_others ks ≡ true
+  pub text_others : {q : Labels} {l : Precedence} {ks : List Kind} {x : Expr} → Derives q l ks x → are_others ks ≡ true
   text_others (chain {a = a} {b = b} is_true operand links) = others_append a b (text_others operand) (links_others links)
   text_others (bare is_true operand) = text_others operand
   text_others {l = l} (sign {t = t} {a = a} is_true operand) = others_cons t a (sign_other l t is_true) (text_others operand)
   text_others (plain first) = text_others first
-  text_others (choice {a = a} {b = b} {c = c} first second third) =
+  text_others (conditional {a = a} {b = b} {c = c} first second third) =
       others_append a (k.Query ∷ (b ++ (k.Colon ∷ c))) (text_others first) (others_append b (k.Colon ∷ c) (text_others second) (text_others third))
   text_others {q = q} (leaf {t = t} {x = x} found) = others_cons t [] (atom_other q t x found) refl
   text_others (paren {a = a} inside) = others_append a (k.Close ∷ []) (text_others inside) refl
@@ -106,12 +108,12 @@ mutual
       others_cons t (k.Open ∷ (a ++ (b ++ (k.Close ∷ [])))) (function_other t f found) inside
 
   -- nor links of a chain
-  links_others : {q : Bool} {l : Line} {b : List Kind} {ys : List Expr} {os : List Op} → Links q l b ys os → are_others b ≡ true
+  links_others : {q : Labels} {l : Precedence} {b : List Kind} {ys : List Expr} {os : List Op} → ChainTail q l b ys os → are_others b ≡ true
   links_others end = refl
   links_others {l = l} (link {t = t} {o = o} {a = a} {b = b} found operand links) =
       others_cons t (a ++ b) (operator_other l t o found) (others_append a b (text_others operand) (links_others links))
 
   -- nor parts of a call
-  parts_others : {q : Bool} {b : List Kind} {ys : List Expr} → More q b ys → are_others b ≡ true
+  parts_others : {q : Labels} {b : List Kind} {ys : List Expr} → Arguments q b ys → are_others b ≡ true
   parts_others last = refl
-  parts_others (part {a = a} {b = b} first parts) = others_append a b (text_others first) (parts_others parts)
+  parts_others (argument {a = a} {b = b} first parts) = others_append a b (text_others first) (parts_others parts)

@@ -10,7 +10,7 @@ use Rattle.std.proofs.lemmas.Bool.{cond-true, cond-false}
 use Rattle.prism_syntax.specs.declared.tokens.Kind.{Kind}
 use Rattle.prism_syntax.specs.declared.tokens.Kind.TheVariants as k
 use Rattle.prism_limits.specs.Nesting.{is_query}
-use Rattle.prism_limits.specs.Seen.{is_semicolon, queries_at_end}
+use Rattle.prism_limits.specs.NestingCounts.{is_semicolon, queries_at_end}
 use Rattle.prism_limits.proofs.RunLemmas.{reverse_push, reverse_cons}
 
 -- one for a token that passes

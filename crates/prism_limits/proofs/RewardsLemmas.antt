@@ -6,6 +6,7 @@ use Rattle.std.proofs.lemmas.List.Elements.{All-nil, All-push, All-cons, All-hea
 use Rattle.prism_syntax.specs.declared.tokens.Kind.{Kind}
 use Rattle.prism_syntax.specs.declared.tokens.Kind.TheVariants as k
 use Rattle.prism_limits.specs.Words.{EndsInRewards}
+use Rattle.prism_limits.specs.ChainWalk.{inside_after}
 use Rattle.prism_limits.proofs.PlaceLemmas.{same_cut}
 
 -- a list is empty or has a last element
@@ -67,7 +68,7 @@ stays_open before token goes_on ends = record {
   unended = All-push (λ t. t ≡ k.EndRewards → ⊥) ends.inside token ends.unended goes_on;
 }
 
--- nothing has a part
+-- nothing has a argument
 starts_parts : (front inside : List Kind) → [] ≡ front ++ (k.Rewards ∷ inside) → ⊥
 starts_parts [] inside cut = cc
 starts_parts (t ∷ ts) inside cut = cc
@@ -82,3 +83,16 @@ inside_kept inside token before opens_none ends_none known = (
   λ was_open. stays_open before token ends_none (known.0 was_open),
   λ ends. ⊎_elim (λ (opened : token ≡ k.Rewards). absurd (opens_none opened)) (λ (was : EndsInRewards before × (token ≡ k.EndRewards → ⊥)). known.1 was.0) (ends_after before token ends),
 )
+
+-- what is known of tokens: whether they end inside a rewards block
+abbrev pub Knows : Bool → List Kind → Type 0
+Knows inside before = IsTrue inside ↔ EndsInRewards before
+
+-- what is known after one more token
+pub inside_next : (inside : Bool) (token : Kind) (before : List Kind) → Knows inside before → Knows (inside_after inside token) (before ++ (token ∷ []))
+inside_next inside k.Rewards before known = (λ is_true. opens before, λ ends. refl)
+inside_next inside k.EndRewards before known = (
+  λ is_true. absurd (cc),
+  λ ends. ⊎_elim (λ (opened : k.EndRewards ≡ k.Rewards). absurd (cc)) (λ (was : EndsInRewards before × (k.EndRewards ≡ k.EndRewards → ⊥)). absurd (was.1 refl)) (ends_after before k.EndRewards ends),
+)
+inside_next inside token before known = inside_kept inside token before (λ is. cc) (λ is. cc) known

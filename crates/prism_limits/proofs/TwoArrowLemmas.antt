@@ -1,31 +1,32 @@
 -- The tokens of a tree with a long chain have two arrows of one chain.
 use Rattle.std.proofs.Common.{◌≡◌, ◌+◌, ℕ, length, Bool, List, [], ◌∷◌, ◌++◌, ◌⊎◌, inl, inr, ⊎_elim, Some, refl, sym, ap, subst, ◌∙◌}
 use Rattle.std.proofs.lemmas.List.{append_assoc}
+use Rattle.prism_syntax.specs.declared.labels.Labels.{Labels}
 use Rattle.prism_syntax.specs.declared.tokens.Kind.{Kind}
 use Rattle.prism_syntax.specs.declared.tokens.Kind.TheVariants as k
 use Rattle.prism_syntax.specs.declared.expressions.Expr.{Expr}
 use Rattle.prism_syntax.specs.declared.expressions.Op.{Op}
 use Rattle.prism_syntax.specs.declared.expressions.Op.TheVariants as o
-use Rattle.prism_syntax.specs.declared.lines.Line.{Line}
-use Rattle.prism_syntax.specs.declared.lines.Line.TheVariants as line
-use Rattle.prism_syntax.specs.Lines.{inner, operator}
-use Rattle.prism_syntax.specs.Expressions.{In, chain, bare, sign, plain, choice, leaf, paren, call, Links, end, link, More, last, part, level}
+use Rattle.prism_syntax.specs.declared.precedence.Precedence.{Precedence}
+use Rattle.prism_syntax.specs.declared.precedence.Precedence.TheVariants as rule
+use Rattle.prism_syntax.specs.Precedence.{inner, operator}
+use Rattle.prism_syntax.specs.Expressions.{Derives, chain, bare, sign, plain, conditional, leaf, paren, call, ChainTail, end, link, Arguments, last, argument, level}
 use Rattle.prism_expression.proofs.RankLemmas.{sign_of}
 use Rattle.prism_limits.specs.Arrows.{HasLongChain, OneHasLongChain, IsLaterArrow}
 use Rattle.prism_limits.proofs.LongChainLemmas.{BeginsWithTwo, level_has, call_has, paren_has, choice_has, first_or_later, sign_has, leaf_has, arrow_line, arrow_token}
 use Rattle.prism_limits.proofs.OthersLemmas.{are_others, text_others, others_outside}
 
 -- two arrows stand in the tokens, and between them one operand
-pub record HasTwoArrows (q : Bool) (ks : List Kind) : Type 0 where
+pub record HasTwoArrows (q : Labels) (ks : List Kind) : Type 0 where
   pub before : List Kind
   pub operand : List Kind
   pub after : List Kind
   pub tree : Expr
   pub cut : ks ≡ before ++ (k.Implies ∷ (operand ++ (k.Implies ∷ after)))
-  pub text : In q line.Equivalence operand tree
+  pub text : Derives q rule.Equivalence operand tree
 
 -- so they do where more tokens follow
-two_front : {q : Bool} {a : List Kind} (b : List Kind) → HasTwoArrows q a → HasTwoArrows q (a ++ b)
+pub two_front : {q : Labels} {a : List Kind} (b : List Kind) → HasTwoArrows q a → HasTwoArrows q (a ++ b)
 two_front b two = record {
   before = two.before;
   operand = two.operand;
@@ -38,7 +39,7 @@ two_front b two = record {
 }
 
 -- and where more stand before
-two_rest : {q : Bool} (a : List Kind) {b : List Kind} → HasTwoArrows q b → HasTwoArrows q (a ++ b)
+pub two_rest : {q : Labels} (a : List Kind) {b : List Kind} → HasTwoArrows q b → HasTwoArrows q (a ++ b)
 two_rest a two = record {
   before = a ++ two.before;
   operand = two.operand;
@@ -48,11 +49,11 @@ two_rest a two = record {
   text = two.text;
 }
 
-two_tail : {q : Bool} (t : Kind) {b : List Kind} → HasTwoArrows q b → HasTwoArrows q (t ∷ b)
+pub two_tail : {q : Labels} (t : Kind) {b : List Kind} → HasTwoArrows q b → HasTwoArrows q (t ∷ b)
 two_tail t two = two_rest (t ∷ []) two
 
 -- a long chain of the tree of a chain is one of its first operand, one of another, or the chain itself
-level_inside : {q : Bool} {l : Line} {b : List Kind} {x : Expr} {ys : List Expr} {os : List Op} → Links q l b ys os → HasLongChain (level x ys os)
+level_inside : {q : Labels} {l : Precedence} {b : List Kind} {x : Expr} {ys : List Expr} {os : List Op} → ChainTail q l b ys os → HasLongChain (level x ys os)
     → HasLongChain x ⊎ (OneHasLongChain ys ⊎ BeginsWithTwo os)
 level_inside end long = inl long
 level_inside {x = x} (link {y = y} {ys = ys} found operand links) long =
@@ -66,7 +67,7 @@ one_operator : {op : Op} → BeginsWithTwo (op ∷ []) → ⊥
 one_operator two = let clash = two.1 in cc
 
 -- two links with arrows
-two_links : {q : Bool} {l : Line} {b : List Kind} {ys : List Expr} {os : List Op} → Links q l b ys os → BeginsWithTwo os → HasTwoArrows q b
+two_links : {q : Labels} {l : Precedence} {b : List Kind} {ys : List Expr} {os : List Op} → ChainTail q l b ys os → BeginsWithTwo os → HasTwoArrows q b
 two_links end two = let clash = two.1 in absurd (cc)
 two_links (link found operand end) two = absurd (one_operator two)
 two_links {q = q} {l = l} (link {t = t} {o = op} {a = a} {y = y} found operand (link {t = u} {o = other} {a = c} {b = d} found_next next links)) two =
@@ -75,19 +76,19 @@ two_links {q = q} {l = l} (link {t = t} {o = op} {a = a} {y = y} found operand (
     let second_op : other ≡ o.Imp = cc in
     let first : t ≡ k.Implies = arrow_token l t (found ∙ ap Some first_op) in
     let second : u ≡ k.Implies = arrow_token l u (found_next ∙ ap Some second_op) in
-    let is : l ≡ line.Implication = arrow_line l op (ap (operator l) (sym first) ∙ found) in
+    let is : l ≡ rule.Implication = arrow_line l op (ap (operator l) (sym first) ∙ found) in
     record {
       before = [];
       operand = a;
       after = c ++ d;
       tree = y;
       cut = ap (λ z. z ∷ (a ++ (u ∷ (c ++ d)))) first ∙ ap (λ z. k.Implies ∷ (a ++ (z ∷ (c ++ d)))) second;
-      text = subst (λ m. In q (inner m) a y) is operand;
+      text = subst (λ m. Derives q (inner m) a y) is operand;
     }
 
 mutual
   -- the tokens of a text whose tree has a long chain
-  pub text_arrows : {q : Bool} {l : Line} {ks : List Kind} {x : Expr} → In q l ks x → HasLongChain x → HasTwoArrows q ks
+  pub text_arrows : {q : Labels} {l : Precedence} {ks : List Kind} {x : Expr} → Derives q l ks x → HasLongChain x → HasTwoArrows q ks
   text_arrows {q = q} (chain {a = a} {b = b} is_true operand links) long =
       ⊎_elim
       (λ here. two_front b (text_arrows operand here))
@@ -96,7 +97,7 @@ mutual
   text_arrows (bare is_true operand) long = text_arrows operand long
   text_arrows {l = l} (sign {t = t} is_true operand) long = two_tail t (text_arrows operand (sign_has (sign_of l t is_true) long))
   text_arrows (plain first) long = text_arrows first long
-  text_arrows (choice {a = a} {b = b} {c = c} first second third) long =
+  text_arrows (conditional {a = a} {b = b} {c = c} first second third) long =
       ⊎_elim
       (λ here. two_front (k.Query ∷ (b ++ (k.Colon ∷ c))) (text_arrows first here))
       (λ there. two_rest a (two_tail k.Query (⊎_elim
@@ -113,19 +114,19 @@ mutual
       (first_or_later (call_has long))))
 
   -- of links of which an operand has one
-  link_arrows : {q : Bool} {l : Line} {b : List Kind} {ys : List Expr} {os : List Op} → Links q l b ys os → OneHasLongChain ys → HasTwoArrows q b
+  link_arrows : {q : Labels} {l : Precedence} {b : List Kind} {ys : List Expr} {os : List Op} → ChainTail q l b ys os → OneHasLongChain ys → HasTwoArrows q b
   link_arrows end one = absurd (first_or_later one)
   link_arrows (link {t = t} {a = a} {b = b} found operand links) one =
       two_tail t (⊎_elim (λ here. two_front b (text_arrows operand here)) (λ later. two_rest a (link_arrows links later)) (first_or_later one))
 
   -- and of parts of a call of which one has one
-  part_arrows : {q : Bool} {b : List Kind} {ys : List Expr} → More q b ys → OneHasLongChain ys → HasTwoArrows q b
+  part_arrows : {q : Labels} {b : List Kind} {ys : List Expr} → Arguments q b ys → OneHasLongChain ys → HasTwoArrows q b
   part_arrows last one = absurd (first_or_later one)
-  part_arrows (part {a = a} {b = b} first parts) one =
+  part_arrows (argument {a = a} {b = b} first parts) one =
       two_tail k.Comma (⊎_elim (λ here. two_front b (text_arrows first here)) (λ later. two_rest a (part_arrows parts later)) (first_or_later one))
 
 -- the second of the two is a later arrow
-pub long_later : {q : Bool} {ks : List Kind} {x : Expr} → In q line.Choice ks x → HasLongChain x → (number : ℕ) × IsLaterArrow q ks number
+pub long_later : {q : Labels} {ks : List Kind} {x : Expr} → Derives q rule.Conditional ks x → HasLongChain x → (index : ℕ) × IsLaterArrow q ks index
 long_later text long =
     let two = text_arrows text long in (
       length two.before + (1 + length two.operand),

@@ -1,5 +1,6 @@
 -- Chains of arrows.
-use Rattle.std.specs.Prelude.{◌≡◌, ◌+◌, ℕ, List, [], ◌∷◌, ◌++◌, length, Bool, true, false}
+use Rattle.std.specs.Prelude.{◌≡◌, ◌+◌, ℕ, List, ◌∷◌, ◌++◌, length}
+use Rattle.prism_syntax.specs.declared.labels.Labels.{Labels}
 use Rattle.prism_syntax.specs.declared.tokens.Kind.{Kind}
 use Rattle.prism_syntax.specs.declared.tokens.Kind.TheVariants as k
 use Rattle.prism_syntax.specs.declared.expressions.Expr.{Expr}
@@ -7,19 +8,19 @@ use Rattle.prism_syntax.specs.declared.expressions.Expr.TheVariants as e
 use Rattle.prism_syntax.specs.declared.expressions.Func.{Func}
 use Rattle.prism_syntax.specs.declared.expressions.Op.{Op}
 use Rattle.prism_syntax.specs.declared.expressions.Op.TheVariants as o
-use Rattle.prism_syntax.specs.declared.lines.Line.TheVariants as line
-use Rattle.prism_syntax.specs.Expressions.{In}
+use Rattle.prism_syntax.specs.declared.precedence.Precedence.TheVariants as rule
+use Rattle.prism_syntax.specs.Expressions.{Derives}
 use Rattle.prism_limits.specs.Words.{EndsInRewards}
 
--- the token with this number is an arrow of a chain that has an arrow before it: one operand of such a chain, and nothing else, stands between the two, and they stand outside each rewards block
-pub record IsLaterArrow (quotes : Bool) (tokens : List Kind) (number : ℕ) : Type 0 where
+-- the token with this index is an arrow of a chain that has an arrow before it: one operand of such a chain, and nothing else, stands between the two, and they stand outside each rewards block
+pub record IsLaterArrow (labels : Labels) (tokens : List Kind) (index : ℕ) : Type 0 where
   pub before : List Kind
   pub operand : List Kind
   pub after : List Kind
   pub tree : Expr
   pub cut : tokens ≡ before ++ (k.Implies ∷ (operand ++ (k.Implies ∷ after)))
-  pub count : length before + (1 + length operand) ≡ number
-  pub text : In quotes line.Equivalence operand tree
+  pub count : length before + (1 + length operand) ≡ index
+  pub text : Derives labels rule.Equivalence operand tree
   pub outside : EndsInRewards before → ⊥
 
 mutual
@@ -39,22 +40,3 @@ mutual
   pub data OneHasLongChain : List Expr → Type 0 where
     in_first : (x : Expr) (xs : List Expr) → HasLongChain x → OneHasLongChain (x ∷ xs)
     in_later : (x : Expr) (xs : List Expr) → OneHasLongChain xs → OneHasLongChain (x ∷ xs)
-
--- an arrow
-abbrev pub is_arrow : Kind → Bool
-is_arrow k.Implies = true
-is_arrow _ = false
-
--- the tokens begin with an arrow
-abbrev pub begins_arrow : List Kind → Bool
-begins_arrow (token ∷ tokens) = is_arrow token
-begins_arrow [] = false
-
--- the tokens begin with an operand of a chain of arrows, which has so many tokens, and an arrow right after it
-pub record BeginsWithOperand (quotes : Bool) (tokens : List Kind) (size : ℕ) : Type 0 where
-  pub operand : List Kind
-  pub after : List Kind
-  pub tree : Expr
-  pub cut : tokens ≡ operand ++ (k.Implies ∷ after)
-  pub count : length operand ≡ size
-  pub text : In quotes line.Equivalence operand tree

@@ -1,5 +1,8 @@
 pub mod Places
 pub mod Words
 pub mod Nesting
-pub mod Seen
 pub mod Arrows
+pub mod Limits
+pub mod NestingCounts
+pub mod ChainWalk
+pub mod ArrowWalk

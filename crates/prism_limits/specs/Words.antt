@@ -1,15 +1,27 @@
 -- The words that are refused by name.
-use Rattle.std.specs.Prelude.{◌≡◌, ℕ, List, [], ◌∷◌, ◌++◌, ◌||◌, codes, bytes_eq, unwrap_or, All, Bool, true, false}
+use Rattle.std.specs.Prelude.{◌≡◌, ℕ, List, [], ◌∷◌, ◌++◌, ◌||◌, ◌&&◌, not, codes, bytes_eq, unwrap_or, All, Bool, true, false}
 use Rattle.prism_syntax.specs.declared.tokens.Kind.{Kind}
 use Rattle.prism_syntax.specs.declared.tokens.Kind.TheVariants as k
 use Rattle.prism_syntax.specs.Spelling.{is_refused, spelling_of}
+use Rattle.prism_limits.specs.declared.kinds.TextKind.{TextKind}
+use Rattle.prism_limits.specs.declared.kinds.TextKind.TheVariants.{Nested}
 use Rattle.prism_limits.specs.Places.{StandsAt}
 
--- a token that is refused where these tokens follow it: a reserved word of the language that this profile leaves out, or the name `log` or `round` with `(` after it
-pub data IsRefused : Kind → List Kind → Type 0 where
-  word : (token : Kind) (after : List Kind) → is_refused token ≡ true → IsRefused token after
-  log : (after : List Kind) → IsRefused (k.Name (codes "log")) (k.Open ∷ after)
-  round : (after : List Kind) → IsRefused (k.Name (codes "round")) (k.Open ∷ after)
+-- a reserved word that is an operator in texts of this kind, though others refuse it
+abbrev pub has_operator : TextKind → Kind → Bool
+has_operator Nested k.W = true
+has_operator Nested k.R = true
+has_operator _ _ = false
+
+-- a reserved word of the language that texts of this kind refuse: those that the profile leaves out, but for their operators
+abbrev pub refuses_word : TextKind → Kind → Bool
+refuses_word text token = is_refused token && not (has_operator text token)
+
+-- a token that is refused where these tokens follow it: a reserved word that texts of this kind refuse, or the name `log` or `round` with `(` after it
+pub data IsRefused (text : TextKind) : Kind → List Kind → Type 0 where
+  word : (token : Kind) (after : List Kind) → refuses_word text token ≡ true → IsRefused text token after
+  log : (after : List Kind) → IsRefused text (k.Name (codes "log")) (k.Open ∷ after)
+  round : (after : List Kind) → IsRefused text (k.Name (codes "round")) (k.Open ∷ after)
 
 -- tokens that end inside a rewards block: the word `rewards`, after which `endrewards` has not come
 pub record EndsInRewards (tokens : List Kind) : Type 0 where
@@ -18,14 +30,20 @@ pub record EndsInRewards (tokens : List Kind) : Type 0 where
   pub cut : tokens ≡ before ++ (k.Rewards ∷ inside)
   pub unended : All (λ token. token ≡ k.EndRewards → ⊥) inside
 
--- the token with this number is refused by name, and stands outside each rewards block
-pub record HasRefusedWord (tokens : List Kind) (number : ℕ) : Type 0 where
+-- the token with this index is refused by name, and stands outside each rewards block
+pub record HasRefusedWord (text : TextKind) (tokens : List Kind) (index : ℕ) : Type 0 where
   pub before : List Kind
   pub token : Kind
   pub after : List Kind
-  pub stands : StandsAt tokens number before token after
-  pub refused : IsRefused token after
+  pub stands : StandsAt tokens index before token after
+  pub refused : IsRefused text token after
   pub outside : EndsInRewards before → ⊥
+
+-- the word of a token: its spelling, or the text of a name; a number has none
+abbrev pub word_of : Kind → List ℕ
+word_of (k.Name text) = text
+word_of (k.Quoted text) = text
+word_of kind = unwrap_or (spelling_of kind) []
 
 -- the name `log` or `round`, which is refused where `(` follows it
 abbrev pub is_left_out : Kind → Bool
@@ -36,9 +54,3 @@ is_left_out _ = false
 abbrev pub begins_open : List Kind → Bool
 begins_open (k.Open ∷ tokens) = true
 begins_open _ = false
-
--- the word of a token: its spelling, or the text of a name; a number has none
-abbrev pub word_of : Kind → List ℕ
-word_of (k.Name text) = text
-word_of (k.Quoted text) = text
-word_of kind = unwrap_or (spelling_of kind) []

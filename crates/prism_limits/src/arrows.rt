@@ -1,53 +1,77 @@
-ghost use Rattle.std.specs.Prelude.{◌≡◌, ◌≤◌, ◌<◌, ◌⊎◌, length, count_by, Some, IfSome, IfOk};
+ghost use Rattle.std.specs.Prelude.{◌≡◌, ◌<◌, length, IfSome, IfOk};
 ghost use Rattle.prism_syntax.specs.Tokens.{kinds};
-ghost use Rattle.prism_limits.specs.Places.{Finds, FindsOnly};
-ghost use Rattle.prism_limits.specs.Arrows.{IsLaterArrow, BeginsWithOperand, is_arrow, begins_arrow};
+ghost use Rattle.prism_limits.specs.Places.{Finds};
+ghost use Rattle.prism_limits.specs.Arrows.{IsLaterArrow};
+ghost use Rattle.prism_limits.specs.ChainWalk.{begins_arrow, place_of};
+ghost use Rattle.prism_limits.specs.ArrowWalk.{TellsOperand, TellsLater};
 
-use crate::rewards::is_inside;
-use prism_expression::{Unread, read};
-use prism_syntax::{Kind, Line, Token};
+use crate::chains::{Chains, step};
+use prism_expression::parse_longest;
+use prism_reading::Mismatch;
+use prism_syntax::{Kind, Labels, Precedence, Token};
 use std::alloc::{AllocError, Global};
 
-/// The number of the first arrow that has another arrow of its chain before it, outside each rewards block.
+/// The index of the first arrow that has another arrow of its chain before it, outside each rewards block.
 pub fn later_arrow(
     alloc: Global,
-    quotes: bool,
+    labels: Labels,
     tokens: &[Token],
 ) -> Result<Option<usize>, AllocError>
-    ensures first { IfOk result (λ found. Finds (IsLaterArrow quotes (kinds tokens.now)) found) }
-    ensures within { IfOk result (λ found. IfSome found (λ number. number < length tokens.now)) }
+    ensures first { IfOk result (λ found. Finds (IsLaterArrow labels (kinds tokens.now)) found) }
+    ensures within { IfOk result (λ found. IfSome found (λ index. index < length tokens.now)) }
 {
-    if arrows(tokens) < 2 {
-        return Ok(None);
-    }
-    let mut least = None;
-    let mut number = 0;
-    let mut inside = false;
+    let mut chains = Chains {
+        inside: false,
+        last: None,
+        around: Vec::new(alloc),
+    };
+    let mut index = 0;
     let mut rest = tokens;
     while let [token, after @ ..] = rest {
-        if is_arrow(&token.kind) && !inside {
-            if let Some(length) = operand(alloc, quotes, after)? {
-                least = Some(sooner(least, number + 1 + length));
-            }
+        if is_later(alloc, labels, tokens, &chains, rest)? {
+            return Ok(Some(index));
         }
-        inside = is_inside(inside, &token.kind);
-        number += 1;
+        step(&mut chains, index, &token.kind)?;
+        index += 1;
         rest = after;
     }
-    Ok(least)
+    Ok(None)
 }
 
-/// How many arrows there are.
-fn arrows(tokens: &[Token]) -> usize
-    ensures { result ≡ count_by (λ token. is_arrow token.kind) tokens.now }
+/// Whether the token before the rest is an arrow with another arrow of its chain before it.
+fn is_later(
+    alloc: Global,
+    labels: Labels,
+    tokens: &[Token],
+    chains: &Chains,
+    rest: &[Token],
+) -> Result<bool, AllocError>
+    requires { IfSome chains.now.last (λ index. index < length tokens.now) }
+    ensures { IfOk result (TellsLater labels (place_of chains.now) (kinds tokens.now) (kinds rest.now)) }
 {
-    tokens.iter().filter(|token| is_arrow(&token.kind)).count()
+    if chains.inside || !begins_arrow(rest) {
+        return Ok(false);
+    }
+    match chains.last {
+        Some(index) => is_operand(alloc, labels, tokens.split_at(index + 1).1, rest),
+        None => Ok(false),
+    }
 }
 
-fn is_arrow(kind: &Kind) -> bool
-    ensures { result ≡ is_arrow kind.now }
+/// Whether the tokens before the rest, which begins with an arrow, are one operand of a chain of arrows.
+fn is_operand(
+    alloc: Global,
+    labels: Labels,
+    tokens: &[Token],
+    rest: &[Token],
+) -> Result<bool, AllocError>
+    ensures { IfOk result (TellsOperand labels (kinds tokens.now) (kinds rest.now)) }
 {
-    matches!(kind, Kind::Implies)
+    match parse_longest(alloc, labels, Precedence::Equivalence, tokens) {
+        Ok(longest) => Ok(longest.rest.len() == rest.len()),
+        Err(Mismatch::NoText { .. }) => Ok(false),
+        Err(Mismatch::OutOfMemory(fault)) => Err(fault),
+    }
 }
 
 /// Whether tokens begin with an arrow.
@@ -55,37 +79,7 @@ fn begins_arrow(tokens: &[Token]) -> bool
     ensures { result ≡ begins_arrow (kinds tokens.now) }
 {
     match tokens {
-        [first, ..] => is_arrow(&first.kind),
+        [first, ..] => matches!(first.kind, Kind::Implies),
         [] => false,
-    }
-}
-
-/// How many tokens an operand of a chain of arrows has, where the tokens begin with one and an arrow follows it.
-fn operand(alloc: Global, quotes: bool, tokens: &[Token]) -> Result<Option<usize>, AllocError>
-    ensures only { IfOk result (λ found. FindsOnly (BeginsWithOperand quotes (kinds tokens.now)) found) }
-    ensures within { IfOk result (λ found. IfSome found (λ size. size < length tokens.now)) }
-{
-    match read(alloc, quotes, Line::Equivalence, tokens) {
-        Ok((_, rest, _)) => {
-            if begins_arrow(rest) {
-                Ok(Some(tokens.len() - rest.len()))
-            } else {
-                Ok(None)
-            }
-        }
-        Err(Unread::NoText { .. }) => Ok(None),
-        Err(Unread::OutOfMemory(fault)) => Err(fault),
-    }
-}
-
-/// The lesser of the least number so far and another one.
-fn sooner(least: Option<usize>, number: usize) -> usize
-    ensures one { (result ≡ number) ⊎ (least ≡ Some result) }
-    ensures below { result ≤ number }
-    ensures kept { IfSome least (λ other. result ≤ other) }
-{
-    match least {
-        Some(other) => other.min(number),
-        None => number,
     }
 }

@@ -3,6 +3,8 @@
 #![tactic(auto)]
 
 mod arrows;
+mod chains;
+mod kinds;
 mod laws;
 mod nesting;
 mod rewards;
@@ -10,10 +12,9 @@ mod spellings;
 mod words;
 
 pub use arrows::later_arrow;
+pub use kinds::TextKind;
 pub use laws::{arrow_law, one_first};
 pub use nesting::too_deep;
 pub use spellings::spelled;
 pub use words::refused_word;
 
-#[cfg(test)]
-mod tests;

@@ -1,12 +1,11 @@
-ghost use Rattle.std.specs.Prelude.{List, [], ◌∷◌, ◌++◌, IsTrue, ◌↔◌};
-ghost use Rattle.prism_syntax.specs.declared.tokens.Kind.{Kind};
-ghost use Rattle.prism_limits.specs.Words.{EndsInRewards};
+ghost use Rattle.std.specs.Prelude.{◌≡◌};
+ghost use Rattle.prism_limits.specs.ChainWalk.{inside_after};
 
 use prism_syntax::Kind;
 
 /// Whether a rewards block is open after a token, from whether one is open before it.
 pub fn is_inside(inside: bool, kind: &Kind) -> bool
-    ensures { (before : List Kind) → (IsTrue inside ↔ EndsInRewards before) → (IsTrue result ↔ EndsInRewards (before ++ (kind.now ∷ []))) }
+    ensures { result ≡ inside_after inside kind.now }
 {
     match kind {
         Kind::Rewards => true,

@@ -1,9 +1,5 @@
-pub mod AnswerLemmas
+pub mod PrefixLemmas
 pub mod StepLemmas
-pub mod FoundLemmas
-pub mod RewardsLemmas
-pub mod LineRewardsLemmas
-pub mod StandsLemmas
-pub mod LineFormedLemmas
-pub mod ModelFormedLemmas
-pub mod AnswerFormedLemmas
+pub mod OutcomeLemmas
+pub mod TextLemmas
+pub mod ExpressionLemmas

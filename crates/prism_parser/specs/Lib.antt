@@ -1,4 +1,5 @@
 pub mod Places
 pub mod Refusals
+pub mod Outcome
+pub mod Expressions
 pub mod Steps
-pub mod Answers

@@ -16,6 +16,6 @@ abbrev pub place_or : ℕ → Option Token → ℕ
 place_or end (Some token) = token.from
 place_or end None = end
 
--- the place of the token with this number; past the last token it is the end of the text
+-- the place of the token with this index; past the last token it is the end of the text
 abbrev pub place_of : List Token → ℕ → ℕ
-place_of tokens number = place_or (end_of tokens) (slice_get tokens number)
+place_of tokens index = place_or (end_of tokens) (slice_get tokens index)

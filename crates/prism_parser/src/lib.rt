@@ -1,15 +1,12 @@
-//! Reads models and expressions, and says why tokens are refused.
+//! Parses models and expressions, and says why tokens are refused.
 #![tactic(auto)]
 
 mod expressions;
-mod faults;
-mod models;
+mod fault;
 mod places;
-mod refusing;
+mod refusals;
 
 pub use expressions::expression;
-pub use faults::ParseFault;
-pub use models::model;
-
-#[cfg(test)]
-mod tests;
+pub use fault::ParseFault;
+pub use places::place_of;
+pub use refusals::{allow, refuse_chains};

@@ -3,11 +3,11 @@ ghost use Rattle.prism_parser.specs.Places.{place_of, end_of};
 
 use prism_syntax::Token;
 
-/// The place of the token with this number; past the last token it is the end of the text.
-pub fn place_of(tokens: &[Token], number: usize) -> u32
-    ensures { result ≡ place_of tokens.now number }
+/// The place of the token with this index; past the last token it is the end of the text.
+pub fn place_of(tokens: &[Token], index: usize) -> u32
+    ensures { result ≡ place_of tokens.now index }
 {
-    match tokens.get(number) {
+    match tokens.get(index) {
         Some(token) => token.from,
         None => end_of(tokens),
     }

@@ -5,7 +5,7 @@ use Rattle.prism_limits.proofs.nesting.too_deep.Given as goal
 
 -- the walk has come to the tokens that are left
 abbrev pub invariant-loop-rest : goal.invariant-loop-rest
-invariant-loop-rest l = Counts l.seen (kinds l.tokens) (kinds l.rest) l.number
+invariant-loop-rest l = Counts l.text l.counts (kinds l.tokens) (kinds l.rest) l.index
 
 abbrev pub decreases-loop-rest : goal.decreases-loop-rest
 decreases-loop-rest l = length l.rest

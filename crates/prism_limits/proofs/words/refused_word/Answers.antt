@@ -5,7 +5,7 @@ use Rattle.prism_limits.proofs.WordLemmas.{look_start, look_next, look_none, pas
 use Rattle.prism_limits.proofs.words.refused_word.Goals as goal
 
 pub loop-rest-init : goal.loop-rest-init
-loop-rest-init c = look_start (kinds c.args.tokens.now)
+loop-rest-init c = look_start c.args.text (kinds c.args.tokens.now)
 
 -- the tokens that are left are the first of them and the others
 pub loop-rest-preserved : goal.loop-rest-preserved
@@ -13,8 +13,8 @@ loop-rest-preserved c =
     let split = first_and_others c.loop-rest.rest.now c.token-item.result _ c.in-len1-up.len_at_least c.token-item.is refl in
     look_next (rw split at c.loop-rest.invariant) (passed c.is_refused_before-refused.ensures c.else-refused.either) c.is_inside-inside.ensures
 
-pub overflow_add-number : goal.overflow_add-number
-overflow_add-number c =
+pub overflow_add-index : goal.overflow_add-index
+overflow_add-index c =
     let split = first_and_others c.loop-rest.rest.now c.token-item.result _ c.in-len1-up.len_at_least c.token-item.is refl in
     let below = walk_below c.args.tokens.now (rw split at c.loop-rest.invariant) in
     omega arith

@@ -1,0 +1,7 @@
+pub mod AnswerLemmas
+pub mod OneLemmas
+pub mod LineLemmas
+pub mod DefiniteLineLemmas
+pub mod WholeLemmas
+pub mod ArrowLineLemmas
+pub mod FormedLemmas

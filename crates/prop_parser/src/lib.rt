@@ -1,0 +1,11 @@
+//! Parses properties, and says why tokens are refused.
+#![tactic(auto)]
+
+mod grammar;
+mod laws;
+mod paths;
+mod properties;
+mod times;
+
+pub use laws::{one_property, property_arrow_law};
+pub use properties::property;
