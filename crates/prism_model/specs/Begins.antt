@@ -1,0 +1,1 @@
+-- The prefixes of models.
