@@ -1,5 +1,6 @@
 pub mod ReachLemmas
 pub mod TerminalLemmas
+pub mod KindLemmas
 pub mod OverlapLemmas
 pub mod DefiniteLemmas
 pub mod BothLemmas

@@ -94,9 +94,9 @@ pub reach_cons : {Part Whole : List Kind → Type 0} {tokens after : List Kind} 
 reach_cons t is up cover reach =
     reach_begun (begun_behind (t ∷ []) is up (begun reach))
     (λ f r equal whole. ⊎_elim
-      (λ none. omega (arith, ap length equal, ap length none, ap length is, ap length reach.cut, reach.count, length-append f r, length-append reach.prefix reach.rest))
-      (λ part. reach.furthest part.0 r part.1 part.2)
-      (cover f r equal whole))
+    (λ none. omega (arith, ap length equal, ap length none, ap length is, ap length reach.cut, reach.count, length-append f r, length-append reach.prefix reach.rest))
+    (λ part. reach.furthest part.0 r part.1 part.2)
+    (cover f r equal whole))
 
 -- a first part that goes so far, and a second one behind a whole first part: the whole goes as far as the one that leaves fewer tokens
 pub reach_lesser : {First Second Whole : List Kind → Type 0} {tokens after : List Kind} (n m : ℕ) (before : List Kind)

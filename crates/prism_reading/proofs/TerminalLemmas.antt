@@ -103,8 +103,8 @@ terminal_kinds {kind = kind} {tokens = tokens} {rest = rest} parses = of_text pa
     of_text (t ∷ (u ∷ more)) cut text = absurd (let none = (terminal_single kind).single (kinds (t ∷ (u ∷ more))) tt text in omega (arith, none))
 
 -- no tokens begin with none
-pub no_first : {tokens : List Token} {first : Kind} {after : List Kind} → length tokens ≡ 0 → kinds tokens ≡ first ∷ after → ⊥
-no_first {tokens = tokens} none equal = omega (arith, none, ap length equal, count_kinds tokens)
+pub no_first : (tokens : List Token) {first : Kind} {after : List Kind} → length tokens ≡ 0 → kinds tokens ≡ first ∷ after → ⊥
+no_first tokens none equal = omega (arith, none, ap length equal, count_kinds tokens)
 
 -- a text of one name is that name's token
 pub name_kind : {t : Kind} {x : List ℕ} → IsName (t ∷ []) x → t ≡ k.Name x

@@ -1,6 +1,7 @@
 //! What every reader of the language stands on: single tokens, and what parsing by a rule tells.
 #![tactic(auto)]
 
+mod kinds;
 mod mismatch;
 mod terminals;
 

@@ -4,6 +4,7 @@ ghost use Rattle.prism_syntax.specs.Tokens.{kinds};
 ghost use Rattle.prism_reading.specs.Reading.{Answers, Anything, Parses, Fails};
 ghost use Rattle.prism_reading.specs.Sequences.{IsTerminal, IsName, IsQuoted};
 
+use crate::kinds::is_kind;
 use crate::mismatch::Mismatch;
 use prism_syntax::{Kind, Token};
 use smc_num::Text;
@@ -16,7 +17,7 @@ pub fn accept<'a>(tokens: &'a [Token], kind: &Kind) -> Option<&'a [Token]>
         (λ rest. Parses (IsTerminal kind.now) Anything tokens.now tt rest.now (length rest.now)) }
 {
     let (first, rest) = tokens.split_first()?;
-    if first.kind == *kind {
+    if is_kind(&first.kind, kind) {
         Some(rest)
     } else {
         None
@@ -44,9 +45,7 @@ pub fn name<'a>(alloc: Global, tokens: &'a [Token]) -> Result<(Text, &'a [Token]
         result }
 {
     let Some((first, rest)) = tokens.split_first() else {
-        return Err(Mismatch::NoText {
-            left: tokens.len(),
-        });
+        return Err(Mismatch::NoText { left: tokens.len() });
     };
     match &first.kind {
         Kind::Name(text) => Ok((text.copy(alloc)?, rest)),
@@ -62,9 +61,7 @@ pub fn quoted<'a>(alloc: Global, tokens: &'a [Token]) -> Result<(Text, &'a [Toke
         result }
 {
     let Some((first, rest)) = tokens.split_first() else {
-        return Err(Mismatch::NoText {
-            left: tokens.len(),
-        });
+        return Err(Mismatch::NoText { left: tokens.len() });
     };
     match &first.kind {
         Kind::Quoted(text) => Ok((text.copy(alloc)?, rest)),

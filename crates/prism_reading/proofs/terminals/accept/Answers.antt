@@ -1,10 +1,14 @@
 use Rattle.std.proofs.Common.{true, false, ◌≡◌, sym, ap, ◌∙◌, refl}
+use Rattle.prism_reading.proofs.ReachLemmas.{heads}
 use Rattle.prism_reading.proofs.TerminalLemmas.{terminal_parses, other_kind}
+use Rattle.prism_syntax.specs.Tokens.{kinds}
 use Rattle.prism_reading.proofs.terminals.accept.Goals as goal
 
-pub returns-then-eq : goal.returns-then-eq
-returns-then-eq c = terminal_parses c.in_ok-first.first.now c.in_ok-first.ensures.cases (c.eq.ensures.0 c.if-eq.true)
+pub returns-then-is_kind : goal.returns-then-is_kind
+returns-then-is_kind c = terminal_parses c.in_ok-first.first.now c.in_ok-first.ensures.cases.0 (c.is_kind.ensures.0 c.if-is_kind.true)
 
-pub returns-else-eq : goal.returns-else-eq
-returns-else-eq c = other_kind c.args.tokens.now (λ first rest cut is.
-    let one = c.eq.ensures.1 ? in ?)
+pub returns-else-is_kind : goal.returns-else-is_kind
+returns-else-is_kind c after equal =
+    let is = c.is_kind.ensures.1 (heads (sym (ap kinds c.in_ok-first.ensures.cases.0) ∙ equal)) in
+    let other = c.if-is_kind.false in
+    cc
