@@ -67,7 +67,7 @@ IsOptionalEnded lead = Ended (IsOptional lead) k.Semicolon
 -- two ends, or none for a truth value
 abbrev pub range : (Unit {0} × (Expr × Expr)) ⊎ Unit {0} → Option (Expr × Expr)
 range (inl p) = Some p.1
-range (inr nothing) = None
+range (inr end) = None
 
 -- the range of a variable, or `bool`
 abbrev pub IsRange : List Kind → Option (Expr × Expr) → Type 0
@@ -89,7 +89,7 @@ pub data BeginsUpdate : List Kind → Type 0 where
 -- a name, or none, and the bracket after it
 abbrev pub action : (List ℕ × Unit {0}) ⊎ Unit {0} → Option (List ℕ)
 action (inl p) = Some p.0
-action (inr nothing) = None
+action (inr end) = None
 
 -- the action of a command, or none, up to the `]` after it
 abbrev pub IsActionEnded : List Kind → Option (List ℕ) → Type 0
@@ -117,7 +117,7 @@ pub data EndsRewards : List Kind → Unit {0} → Type 0 where
 
 -- a rewards block, which stands for nothing
 abbrev pub IsPassed : List Kind → Unit {0} → Type 0
-IsPassed tokens nothing = IsRewards tokens
+IsPassed tokens tree = IsRewards tokens
 
 -- a model with one item more, behind those of its kind
 abbrev pub with_last : ModelText → Item → ModelText
