@@ -4,3 +4,7 @@ pub mod ExpressionLemmas
 pub mod LineLemmas
 pub mod RewardsLemmas
 pub mod DefiniteLineLemmas
+pub mod StepLemmas
+pub mod SortLemmas
+pub mod BranchLemmas
+pub mod TokenLemmas

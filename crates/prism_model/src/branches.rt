@@ -52,12 +52,25 @@ fn alone<'a>(alloc: Global, tokens: &'a [Token]) -> Result<(Items<Branch>, &'a [
 fn begins_update(tokens: &[Token]) -> bool
     ensures { MatchBool result (BeginsUpdate (kinds tokens.now)) (BeginsUpdate (kinds tokens.now) → ⊥) }
 {
-    match tokens {
-        [first, second, ..] if first.kind == Kind::True => second.kind == Kind::Semicolon,
-        [first, second, third, ..] if first.kind == Kind::Open && third.kind == Kind::Prime => {
-            matches!(second.kind, Kind::Name(_))
-        }
-        _ => false,
+    match accept(tokens, &Kind::True) {
+        Some(rest) => accept(rest, &Kind::Semicolon).is_some(),
+        None => begins_target(tokens),
+    }
+}
+
+/// Whether the tokens begin with an assigned name.
+fn begins_target(tokens: &[Token]) -> bool
+    ensures { MatchBool result (BeginsTarget (kinds tokens.now)) (BeginsTarget (kinds tokens.now) → ⊥) }
+{
+    let Some(rest) = accept(tokens, &Kind::Open) else {
+        return false;
+    };
+    match rest {
+        [] => false,
+        [first, rest @ ..] => match first.kind {
+            Kind::Name(_) => accept(rest, &Kind::Prime).is_some(),
+            _ => false,
+        },
     }
 }
 

@@ -49,7 +49,10 @@ fn begins_name(tokens: &[Token]) -> bool
 {
     match tokens {
         [] => false,
-        [first, ..] => matches!(first.kind, Kind::Name(_)),
+        [first, ..] => match first.kind {
+            Kind::Name(_) => true,
+            _ => false,
+        },
     }
 }
 
