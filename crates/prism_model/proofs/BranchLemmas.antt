@@ -246,3 +246,7 @@ pub update_seen : (tokens : List Kind) (result : Bool) → BeginsNot k.True toke
     → MatchBool result (BeginsUpdate tokens) (BeginsUpdate tokens → ⊥)
 update_seen tokens true other seen = assigns seen
 update_seen tokens false other seen = λ begins. seen (target_begins tokens other begins)
+
+-- without a name after `(` no assigned name begins the tokens
+pub no_name_target : (tokens l : List Kind) (t : Kind) → tokens ≡ k.Open ∷ (t ∷ l) → ((text : List ℕ) → t ≡ k.Name text → ⊥) → BeginsTarget tokens → ⊥
+no_name_target _ l t is other (target {name} {rest}) = other name (cc)

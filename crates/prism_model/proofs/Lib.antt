@@ -8,3 +8,5 @@ pub mod StepLemmas
 pub mod SortLemmas
 pub mod BranchLemmas
 pub mod TokenLemmas
+pub mod ModuleLemmas
+pub mod ItemLemmas

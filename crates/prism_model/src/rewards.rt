@@ -26,9 +26,9 @@ fn after_rewards<'a>(tokens: &'a [Token]) -> Result<&'a [Token], Mismatch>
 {
     let mut rest = tokens;
     while let [first, after @ ..] = rest {
-        rest = after;
-        if first.kind == Kind::EndRewards {
-            return Ok(rest);
+        match first.kind {
+            Kind::EndRewards => return Ok(after),
+            _ => rest = after,
         }
     }
     Err(Mismatch::NoText { left: 0 })
