@@ -10,3 +10,5 @@ pub mod BranchLemmas
 pub mod TokenLemmas
 pub mod ModuleLemmas
 pub mod ItemLemmas
+pub mod UpdateLemmas
+pub mod ModelLemmas

@@ -1,5 +1,7 @@
 -- One step of parsing a line: what is missing after a part that was found, and what is where the first token is another.
-use Rattle.std.proofs.Common.{◌≡◌, ℕ, List, [], ◌∷◌, ◌++◌, length, refl, sym, ◌∙◌, ap, subst}
+use Rattle.std.proofs.Common.{◌≡◌, ℕ, List, [], ◌∷◌, ◌++◌, length, Bool, Option, Some, None, Bor, refl, sym, ◌∙◌, ap, subst}
+use Rattle.std.specs.Option.{MatchOption, is_some}
+use Rattle.std.specs.Prelude.{MatchBool}
 use Rattle.prism_syntax.specs.declared.tokens.Kind.{Kind}
 use Rattle.prism_syntax.specs.declared.tokens.Token.{Token}
 use Rattle.prism_syntax.specs.Tokens.{kinds}
@@ -44,3 +46,10 @@ otherwise {First} {ts} t l begins starts has differ = misses ts starts has (λ u
 -- a token is missing where the tokens do not begin with it
 pub no_token : {t : Kind} {Follows : List Kind → Type 0} (ts : List Token) → BeginsNot t (kinds ts) → Fails (IsTerminal t) Follows ts (length ts)
 no_token {t} ts none = misses ts (terminal_starts t) (terminal_has t) (λ u l cut is. none l (cut ∙ ap (λ v. v ∷ l) is))
+
+-- whether a token was seen
+pub accepted : {t : Kind} {ts : List Token} (seen : Option (Bor (List Token))) (result : Bool)
+    → MatchOption seen (BeginsNot t (kinds ts)) (λ rest. Parses (IsTerminal t) Anything ts tt rest.now (length rest.now)) → result ≡ is_some seen
+    → MatchBool result (BeginsNot t (kinds ts) → ⊥) (BeginsNot t (kinds ts))
+accepted {t} {ts} None result tells is = subst (λ b. MatchBool b (BeginsNot t (kinds ts) → ⊥) (BeginsNot t (kinds ts))) (sym is) tells
+accepted {t} {ts} (Some rest) result tells is = subst (λ b. MatchBool b (BeginsNot t (kinds ts) → ⊥) (BeginsNot t (kinds ts))) (sym is) (λ none. none _ (begin_with tells))

@@ -1,5 +1,5 @@
 -- Texts of one rule, one after another.
-use Rattle.std.proofs.Common.{◌≡◌, ◌⊎◌, inl, inr, ℕ, ◌≤◌, List, [], ◌∷◌, ◌++◌, length, ◌+◌, refl, sym, ◌∙◌, ap, subst, arith, length-append, append_assoc, append-nil}
+use Rattle.std.proofs.Common.{◌≡◌, ◌⊎◌, inl, inr, ℕ, ◌≤◌, ◌<◌, List, [], ◌∷◌, ◌++◌, length, refl, sym, ◌∙◌, ap, subst, arith, length-append, append_assoc, append-nil}
 use Rattle.std.proofs.lemmas.List.{length-map, map-append}
 use Rattle.prism_syntax.specs.declared.tokens.Kind.{Kind}
 use Rattle.prism_syntax.specs.declared.tokens.Token.{Token}
@@ -216,7 +216,7 @@ longer (t ∷ p) x starts text = omega arith
 
 -- a text that begins with some token is not empty
 pub shorter : {X : Type 0} {Rule : List Kind → X → Type 0} {First : Kind → Type 0} {Before : List Kind → Type 0} {ts rest : List Token} {x : X} {m : ℕ}
-    → Starts Rule First → Parses Rule Before ts x rest m → length rest + 1 ≤ length ts
+    → Starts Rule First → Parses Rule Before ts x rest m → length rest < length ts
 shorter {Rule} {ts} {rest} {x} starts one = omega (arith, ap length one.cut, length-append one.prefix rest, longer one.prefix x starts one.text)
 
 each_then_some : {X Y : Type 0} {Rule : List Kind → X → Type 0} {Second : List Kind → Y → Type 0} {First Then : Kind → Type 0} (l : List Kind) (z : List X × Y)
