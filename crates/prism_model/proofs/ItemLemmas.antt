@@ -225,12 +225,12 @@ item_missing {make} ts l left items begins fails = record {
 }
 
 other_word : (t : Kind) (a : List Kind) (z : Item) → ItemBy t a z → (t ≡ k.Const → ⊥) → (t ≡ k.Global → ⊥) → (t ≡ k.Formula → ⊥) → (t ≡ k.Module → ⊥) → (t ≡ k.Label → ⊥) → (t ≡ k.Rewards → ⊥) → ⊥
-other_word t a _ (ItemBy.const is text) const global formula «module» label rewards = const is
-other_word t a _ (ItemBy.global is text) const global formula «module» label rewards = global is
-other_word t a _ (ItemBy.formula is text) const global formula «module» label rewards = formula is
-other_word t a _ (ItemBy.«module» is text) const global formula «module» label rewards = «module» is
-other_word t a _ (ItemBy.label is text) const global formula «module» label rewards = label is
-other_word t a _ (ItemBy.rewards is text) const global formula «module» label rewards = rewards is
+other_word t a _ (ItemBy.const is text) w v u s r q = w is
+other_word t a _ (ItemBy.global is text) w v u s r q = v is
+other_word t a _ (ItemBy.formula is text) w v u s r q = u is
+other_word t a _ (ItemBy.«module» is text) w v u s r q = s is
+other_word t a _ (ItemBy.label is text) w v u s r q = r is
+other_word t a _ (ItemBy.rewards is text) w v u s r q = q is
 
 -- another word begins no item
 abbrev pub BeginsItem : Kind → Type 0
@@ -241,12 +241,12 @@ words_start = record { some = λ z text. item_some z text; first = λ t a z text
 
 pub no_word : (ts rest : List Token) (first : Token) → ts ≡ first ∷ rest → (first.kind ≡ k.Const → ⊥) → (first.kind ≡ k.Global → ⊥) → (first.kind ≡ k.Formula → ⊥)
     → (first.kind ≡ k.Module → ⊥) → (first.kind ≡ k.Label → ⊥) → (first.kind ≡ k.Rewards → ⊥) → Fails IsItem Anything ts (length ts)
-no_word ts rest first cut const global formula «module» label rewards =
+no_word ts rest first cut w v u s r q =
     misses ts words_start item_has (λ t l equal by.
         let whole : kinds ts ≡ first.kind ∷ kinds rest = ap kinds cut in
         let same : t ≡ first.kind = cc in
         let by_first : BeginsItem first.kind = subst BeginsItem same by in
-        other_word first.kind by_first.0 by_first.1 by_first.2 const global formula «module» label rewards)
+        other_word first.kind by_first.0 by_first.1 by_first.2 w v u s r q)
 
 pub no_item_at_end : (ts : List Token) → length ts < 1 → Fails IsItem Anything ts 0
 no_item_at_end [] short = misses [] words_start item_has (λ t l equal by. cc)

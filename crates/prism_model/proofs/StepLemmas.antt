@@ -48,8 +48,8 @@ pub no_token : {t : Kind} {Follows : List Kind → Type 0} (ts : List Token) →
 no_token {t} ts none = misses ts (terminal_starts t) (terminal_has t) (λ u l cut is. none l (cut ∙ ap (λ v. v ∷ l) is))
 
 -- whether a token was seen
-pub accepted : {t : Kind} {ts : List Token} (seen : Option (Bor (List Token))) (result : Bool)
+pub accepted : (t : Kind) (ts : List Token) (seen : Option (Bor (List Token))) (result : Bool)
     → MatchOption seen (BeginsNot t (kinds ts)) (λ rest. Parses (IsTerminal t) Anything ts tt rest.now (length rest.now)) → result ≡ is_some seen
     → MatchBool result (BeginsNot t (kinds ts) → ⊥) (BeginsNot t (kinds ts))
-accepted {t} {ts} None result tells is = subst (λ b. MatchBool b (BeginsNot t (kinds ts) → ⊥) (BeginsNot t (kinds ts))) (sym is) tells
-accepted {t} {ts} (Some rest) result tells is = subst (λ b. MatchBool b (BeginsNot t (kinds ts) → ⊥) (BeginsNot t (kinds ts))) (sym is) (λ none. none _ (begin_with tells))
+accepted t ts None result tells is = subst (λ b. MatchBool b (BeginsNot t (kinds ts) → ⊥) (BeginsNot t (kinds ts))) (sym is) tells
+accepted t ts (Some rest) result tells is = subst (λ b. MatchBool b (BeginsNot t (kinds ts) → ⊥) (BeginsNot t (kinds ts))) (sym is) (λ none. none _ (begin_with tells))

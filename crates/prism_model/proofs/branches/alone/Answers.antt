@@ -1,5 +1,7 @@
-use Rattle.std.proofs.Common.{◌++◌, ◌∙◌, ap}
+use Rattle.std.proofs.Common.{◌∷◌, [], ◌++◌, ◌∙◌, ◌≡◌, ap}
 use Rattle.prism_syntax.specs.declared.tokens.Kind.TheVariants as k
+use Rattle.std.proofs.Common.{None}
+use Rattle.prism_syntax.specs.declared.commands.Branch.{Branch}
 use Rattle.prism_model.proofs.AnswerLemmas.{passed}
 use Rattle.prism_model.proofs.BranchLemmas.{alone_definite, alone_missing, branches_parts_definite}
 use Rattle.prism_model.proofs.DefiniteLineLemmas.{semicolon_update, update_definite}
@@ -18,5 +20,6 @@ returns-in_err-rest c = passed _ _ _ c.in_err-rest.field-0.0 c.from_residual-in_
 
 pub returns : goal.returns
 returns c = 
-    let pushed = c.in_ok-push.ensures.ok ∙ ap (λ l. l ++ _) c.new-branches.ensures in
+    let branch : Branch = record { weight = None; sets = c.in_ok-sets.sets } in
+    let pushed : c.push.new.self ≡ branch ∷ [] = c.in_ok-push.ensures.ok ∙ ap (λ l. l ++ (branch ∷ [])) c.new-branches.ensures in
     rw pushed (made_found branches_made (first_found branches_parts_definite (both_found alone_definite c.in_ok-sets.ensures c.in_ok-rest.ensures)))

@@ -11,7 +11,7 @@ pub returns-in-Some-accept : goal.returns-in-Some-accept
 returns-in-Some-accept c = joined_true c.in-Some.ensures c.in-Some-accept.ensures
 
 pub returns-in-None-accept : goal.returns-in-None-accept
-returns-in-None-accept c = true_found c.in-Some.ensures c.in-None-accept.ensures
+returns-in-None-accept c = rw c.new.ensures (true_found c.in-Some.ensures c.in-None-accept.ensures)
 
 pub returns-in_err-sets-in-None : goal.returns-in_err-sets-in-None
 returns-in_err-sets-in-None c = passed _ _ _ c.in_err-sets-in-None.field-0.0 c.from_residual.result c.from_residual.ensures.1 c.in_err-sets-in-None.ensures (λ left none. made_missing update_made (second_alone (no_token _ c.in-None.ensures) none))
