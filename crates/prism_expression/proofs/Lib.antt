@@ -5,3 +5,14 @@ pub mod TwoConditionalLemmas
 pub mod TwoPrimaryLemmas
 pub mod CompareLemmas
 pub mod FormedLemmas
+pub mod FoundLemmas
+pub mod NextLemmas
+pub mod ChainLemmas
+pub mod TruthLemmas
+pub mod UntilLemmas
+pub mod SignLemmas
+pub mod ConditionalLemmas
+pub mod CallLemmas
+pub mod PrimaryLemmas
+pub mod AnswerLemmas
+pub mod BeginLemmas

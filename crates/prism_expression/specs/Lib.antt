@@ -1,2 +1,4 @@
+pub mod Begins
 pub mod Longest
 pub mod Follow
+pub mod Parts

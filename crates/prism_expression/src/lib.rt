@@ -5,6 +5,6 @@ mod laws;
 mod longest;
 mod parsing;
 
-pub use laws::one_tree;
+pub use laws::{begins_exactly, one_tree};
 pub use longest::Longest;
 pub use parsing::{expression_until, parse_longest};

@@ -12,3 +12,4 @@ pub mod ModuleLemmas
 pub mod ItemLemmas
 pub mod UpdateLemmas
 pub mod ModelLemmas
+pub mod BeginLemmas

@@ -15,5 +15,5 @@ mod rewards;
 mod updates;
 mod variables;
 
-pub use laws::one_model;
+pub use laws::{begins_model, one_model};
 pub use parsing::parse;
