@@ -73,11 +73,12 @@ pub chain_goes_on : {labels : Labels} {l m : Precedence} {tokens rest after next
     → ChainSoFar labels l (kinds tokens) (kinds rest) n x ys os × Cut tokens rest → BeginsWith (λ t. operator l t ≡ Some o) rest after → IsLongest (Derives labels m) after y next p
     → ChainSoFar labels l (kinds tokens) (kinds next) q x zs ps × Cut tokens next
 chain_goes_on {labels = labels} {l = l} {tokens = tokens} {after = after} {next = next} {x = x} {y = y} {n = n} {p = p} {zs = zs} {os = os} {ps = ps} {o = o} is_true level_is operands operators least so_far passed told =
-    let further = chain_next passed.first.kind o is_true so_far.0 (with_kinds passed) passed.is (longest_found (subst (λ v. IsLongest (Derives labels v) after y next p) level_is told)) in
-    (subst (λ v. ChainSoFar labels l (kinds tokens) (kinds next) v x zs ps) (sym least)
-      (subst (λ v. ChainSoFar labels l (kinds tokens) (kinds next) (min n p) x zs v) (sym operators)
-        (subst (λ v. ChainSoFar labels l (kinds tokens) (kinds next) (min n p) x v (os ++ (o ∷ []))) (sym operands) further)),
-     cut_on so_far.1 (cut_on (with_cut passed) (longest_cut told)))
+    let further = chain_next passed.first.kind o is_true so_far.0 (with_kinds passed) passed.is (longest_found (subst (λ v. IsLongest (Derives labels v) after y next p) level_is told)) in (
+      subst (λ v. ChainSoFar labels l (kinds tokens) (kinds next) v x zs ps) (sym least)
+          (subst (λ v. ChainSoFar labels l (kinds tokens) (kinds next) (min n p) x zs v) (sym operators)
+          (subst (λ v. ChainSoFar labels l (kinds tokens) (kinds next) (min n p) x v (os ++ (o ∷ []))) (sym operands) further)),
+      cut_on so_far.1 (cut_on (with_cut passed) (longest_cut told)),
+    )
 
 pub chain_ends : {labels : Labels} {l : Precedence} {tokens rest : List Token} {x tree : Expr} {n : ℕ} {ys : List Expr} {os : List Op} → is_chain l ≡ true → tree ≡ level x ys os
     → ChainSoFar labels l (kinds tokens) (kinds rest) n x ys os × Cut tokens rest → BeginsWithout (λ t. IsSome (operator l t)) rest → IsLongest (Derives labels l) tokens tree rest n
@@ -90,8 +91,8 @@ pub chain_stops : {labels : Labels} {l m : Precedence} {tokens rest after : List
 chain_stops {labels = labels} {l = l} {tokens = tokens} {rest = rest} {after = after} {tree = tree} {n = n} {p = p} {o = o} is_true level_is tree_is least so_far passed fails =
     found_longest so_far.1
     (subst (λ v. Found (Derives labels l) (kinds tokens) tree (kinds rest) v) (sym least)
-      (subst (λ v. Found (Derives labels l) (kinds tokens) v (kinds rest) (min n p)) (sym tree_is)
-        (chain_stop passed.first.kind o is_true so_far.0 (with_kinds passed) passed.is (fails_missing (subst (λ v. Fails (Derives labels v) Anything after p) level_is fails)))))
+    (subst (λ v. Found (Derives labels l) (kinds tokens) v (kinds rest) (min n p)) (sym tree_is)
+    (chain_stop passed.first.kind o is_true so_far.0 (with_kinds passed) passed.is (fails_missing (subst (λ v. Fails (Derives labels v) Anything after p) level_is fails)))))
 
 -- ---- single kinds
 
@@ -142,7 +143,7 @@ pub conditional_whole : {labels : Labels} {tokens rest after : List Token} {x y 
 conditional_whole {labels = labels} {tokens = tokens} {after = after} {tree = tree} {n = n} {m = m} tree_is least told parts =
     found_longest (cut_on (longest_cut told) (longest_cut parts))
     (subst (λ v. Found (Derives labels rule.Conditional) (kinds tokens) tree (kinds after) v) (sym least)
-      (subst (λ v. Found (Derives labels rule.Conditional) (kinds tokens) v (kinds after) (min n m)) (sym tree_is) (conditional_found (longest_found told) (longest_found parts))))
+    (subst (λ v. Found (Derives labels rule.Conditional) (kinds tokens) v (kinds after) (min n m)) (sym tree_is) (conditional_found (longest_found told) (longest_found parts))))
 
 pub conditional_alone : {labels : Labels} {tokens rest : List Token} {x : Expr} {n m p : ℕ} → p ≡ min n m → IsLongest (Derives labels rule.Implication) tokens x rest n → Fails (IsBranches labels) Anything rest m
     → IsLongest (Derives labels rule.Conditional) tokens x rest p
@@ -167,10 +168,11 @@ pub arguments_go_on : {labels : Labels} {g : Func} {tokens rest after next : Lis
     → ArgumentsSoFar labels g (kinds tokens) (kinds rest) n x ys × Cut tokens rest → BeginsWith (λ t. (t ≡ k.Comma) × (takes g (count + 1) ≡ true)) rest after
     → IsLongest (Derives labels rule.Conditional) after y next p → ArgumentsSoFar labels g (kinds tokens) (kinds next) q x zs × Cut tokens next
 arguments_go_on {labels = labels} {g = g} {tokens = tokens} {next = next} {x = x} {n = n} {p = p} {ys = ys} {zs = zs} many more least so_far passed told =
-    let here = comma_kinds g ys many passed in
-    (subst (λ v. ArgumentsSoFar labels g (kinds tokens) (kinds next) v x zs) (sym least)
-      (subst (λ v. ArgumentsSoFar labels g (kinds tokens) (kinds next) (min n p) x v) (sym more) (arguments_next so_far.0 here.0 here.1 (longest_found told))),
-     cut_on so_far.1 (cut_on (with_cut passed) (longest_cut told)))
+    let here = comma_kinds g ys many passed in (
+      subst (λ v. ArgumentsSoFar labels g (kinds tokens) (kinds next) v x zs) (sym least)
+          (subst (λ v. ArgumentsSoFar labels g (kinds tokens) (kinds next) (min n p) x v) (sym more) (arguments_next so_far.0 here.0 here.1 (longest_found told))),
+      cut_on so_far.1 (cut_on (with_cut passed) (longest_cut told)),
+    )
 
 pub arguments_stop : {labels : Labels} {g : Func} {tokens rest after : List Token} {x : Expr} {n p q count : ℕ} {ys : List Expr} → count ≡ length ys → q ≡ min n p
     → ArgumentsSoFar labels g (kinds tokens) (kinds rest) n x ys × Cut tokens rest → BeginsWith (λ t. (t ≡ k.Comma) × (takes g (count + 1) ≡ true)) rest after
@@ -184,8 +186,8 @@ pub arguments_unclosed : {labels : Labels} (g : Func) {tokens : List Token} (res
     → BeginsWithout (λ t. (t ≡ k.Comma) × (takes g (count + 1) ≡ true)) rest → BeginsWithout (λ t. (t ≡ k.Close) × (takes g other ≡ true)) rest → Fails (IsArguments labels g) Anything tokens n
 arguments_unclosed g rest {count = count} {other = other} many same so_far no_comma no_close =
     missing_fails (unclosed so_far.0
-      (λ r is fits. without_kinds (λ t. (t ≡ k.Comma) × (takes g (count + 1) ≡ true)) rest no_comma k.Comma r is (refl, ap (λ n. takes g (n + 1)) many ∙ fits))
-      (λ r is fits. without_kinds (λ t. (t ≡ k.Close) × (takes g other ≡ true)) rest no_close k.Close r is (refl, ap (takes g) same ∙ fits)))
+    (λ r is fits. without_kinds (λ t. (t ≡ k.Comma) × (takes g (count + 1) ≡ true)) rest no_comma k.Comma r is (refl, ap (λ n. takes g (n + 1)) many ∙ fits))
+    (λ r is fits. without_kinds (λ t. (t ≡ k.Close) × (takes g other ≡ true)) rest no_close k.Close r is (refl, ap (takes g) same ∙ fits)))
 
 pub arguments_close : {labels : Labels} (g : Func) {tokens rest after : List Token} {x : Expr} {n count : ℕ} {ys xs : List Expr} → count ≡ length ys → xs ≡ x ∷ ys
     → ArgumentsSoFar labels g (kinds tokens) (kinds rest) n x ys × Cut tokens rest → BeginsWith (λ t. (t ≡ k.Close) × (takes g count ≡ true)) rest after
@@ -219,7 +221,7 @@ pub paren_whole : {labels : Labels} {tokens inside rest : List Token} {p : ℕ} 
 paren_whole {labels = labels} {tokens = tokens} {rest = rest} same shown told =
     found_longest (cut_on (parses_cut shown) (parses_cut told))
     (subst (λ v. Found (Derives labels rule.Primary) (kinds tokens) (e.Paren v) (kinds rest) (length rest)) (sym same)
-      (behind_found (paren_behind (terminal_kinds shown)) (closed_found (until_agrees rule.Conditional k.Close refl) told)))
+    (behind_found (paren_behind (terminal_kinds shown)) (closed_found (until_agrees rule.Conditional k.Close refl) told)))
 
 pub primary_nothing : {labels : Labels} (tokens : List Token) → length tokens ≡ 0 → Fails (Derives labels rule.Primary) Anything tokens (length tokens)
 primary_nothing {labels = labels} tokens none =
@@ -234,7 +236,7 @@ pub leaf_fails : {labels : Labels} {tokens rest : List Token} (first : Token) �
     → Fails (Derives labels rule.Primary) Anything tokens (length tokens)
 leaf_fails {labels = labels} {tokens = tokens} {rest = rest} first cut shut no_atom no_function =
     missing_fails (subst (λ n. Missing (Derives labels rule.Primary) (kinds tokens) n) (count_kinds tokens)
-      (leaf_missing first.kind (ap kinds cut) (λ is. shut (kinds rest) (ap kinds cut ∙ ap (λ v. v ∷ kinds rest) is)) no_atom no_function))
+    (leaf_missing first.kind (ap kinds cut) (λ is. shut (kinds rest) (ap kinds cut ∙ ap (λ v. v ∷ kinds rest) is)) no_atom no_function))
 
 pub call_whole : {labels : Labels} {g : Func} {tokens opened rest : List Token} {xs : List Expr} (first : Token) → tokens ≡ first ∷ opened → function first.kind ≡ Some g → Parses (IsCalled labels g) Anything opened xs rest (length rest)
     → IsLongest (Derives labels rule.Primary) tokens (e.Call g xs) rest (length rest)

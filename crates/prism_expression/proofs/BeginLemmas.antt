@@ -80,9 +80,10 @@ begun {labels = labels} {l = l} is begins = subst (λ v. Begins labels l v) is b
 
 -- an operand more after a chain
 chain_more : {labels : Labels} {l : Precedence} {h a : List Kind} {x y : Expr} (t : Kind) (o : Op) → is_chain l ≡ true → ChainText labels l h x → operator l t ≡ Some o → Derives labels (inner l) a y → (z : Expr) × Derives labels l (h ++ (t ∷ a)) z
-chain_more {labels = labels} {l = l} {a = a} {y = y} t o is_true (chain_text {a = c} {b = d} {x = x} {ys = ys} {os = os} operand tail) found text =
-    (level x (ys ++ (y ∷ [])) (os ++ (o ∷ [])),
-     subst (λ v. Derives labels l v (level x (ys ++ (y ∷ [])) (os ++ (o ∷ [])))) (sym (append_assoc c d (t ∷ a))) (chain is_true operand (tail_more t o a y tail found text)))
+chain_more {labels = labels} {l = l} {a = a} {y = y} t o is_true (chain_text {a = c} {b = d} {x = x} {ys = ys} {os = os} operand tail) found text = (
+  level x (ys ++ (y ∷ [])) (os ++ (o ∷ [])),
+  subst (λ v. Derives labels l v (level x (ys ++ (y ∷ [])) (os ++ (o ∷ [])))) (sym (append_assoc c d (t ∷ a))) (chain is_true operand (tail_more t o a y tail found text)),
+)
 
 -- an argument more that a call takes
 fits_more : (f : Func) (xs ys : List Expr) (y : Expr) → takes f (length (xs ++ (y ∷ ys))) ≡ true → takes f (length ((xs ++ (y ∷ [])) ++ ys)) ≡ true
@@ -124,10 +125,10 @@ link_cuts t o is_true found operand first rest h x text [] more is = begun (sym 
 link_cuts {a = a} {b = b} t o is_true found operand first rest h x text (u ∷ c) more is =
     begun (ap (λ v. h ++ (v ∷ c)) (sym (heads is)))
     (⊎_elim (λ within. in_operand t is_true text found (first c within.0 (sym within.1)))
-      (λ beyond.
-        let longer = chain_more t o is_true (chain_texts is_true text) found operand in
-        begun (append_assoc h (t ∷ a) beyond.0 ∙ ap (λ v. h ++ (t ∷ v)) (sym beyond.1)) (rest (h ++ (t ∷ a)) longer.0 longer.1 beyond.0 more (sym beyond.2)))
-      (cut_twice c more a b (tails is)))
+    (λ beyond.
+    let longer = chain_more t o is_true (chain_texts is_true text) found operand in
+    begun (append_assoc h (t ∷ a) beyond.0 ∙ ap (λ v. h ++ (t ∷ v)) (sym beyond.1)) (rest (h ++ (t ∷ a)) longer.0 longer.1 beyond.0 more (sym beyond.2)))
+    (cut_twice c more a b (tails is)))
 
 sign_cuts : {labels : Labels} {l : Precedence} {a : List Kind} (t : Kind) → is_sign l t ≡ true → Cuts labels l a → Cuts labels l (t ∷ a)
 sign_cuts t is_true first [] more is = empty
@@ -146,8 +147,8 @@ then_cuts a b first second middle last_part [] more is = begun (sym (append-nil 
 then_cuts {c = c} a b first second middle last_part (u ∷ d) more is =
     begun (ap (λ v. a ++ (v ∷ d)) (sym (heads is)))
     (⊎_elim (λ within. in_then first (middle d within.0 (sym within.1)))
-      (λ beyond. begun (ap (λ v. a ++ (k.Query ∷ v)) (sym beyond.1)) (else_cuts a b first second last_part beyond.0 more (sym beyond.2)))
-      (cut_twice d more b (k.Colon ∷ c) (tails is)))
+    (λ beyond. begun (ap (λ v. a ++ (k.Query ∷ v)) (sym beyond.1)) (else_cuts a b first second last_part beyond.0 more (sym beyond.2)))
+    (cut_twice d more b (k.Colon ∷ c) (tails is)))
 
 conditional_cuts : {labels : Labels} {c : List Kind} {x y : Expr} (a b : List Kind) → Derives labels rule.Implication a x → Derives labels rule.Implication b y → Cuts labels rule.Implication a → Cuts labels rule.Implication b
     → Cuts labels rule.Conditional c → Cuts labels rule.Conditional (a ++ (k.Query ∷ (b ++ (k.Colon ∷ c))))
@@ -172,8 +173,8 @@ paren_cuts a text inside [] more is = empty
 paren_cuts a text inside (u ∷ f) more is =
     begun (ap (λ v. v ∷ f) (sym (heads is)))
     (⊎_elim (λ within. in_parentheses (inside f within.0 (sym within.1)))
-      (λ beyond. begun (ap (λ v. k.Open ∷ v) (sym beyond.1)) (close_cuts a text beyond.0 more (sym beyond.2)))
-      (cut_twice f more a (k.Close ∷ []) (tails is)))
+    (λ beyond. begun (ap (λ v. k.Open ∷ v) (sym beyond.1)) (close_cuts a text beyond.0 more (sym beyond.2)))
+    (cut_twice f more a (k.Close ∷ []) (tails is)))
 
 last_cuts : {labels : Labels} → ArgumentsCuts labels [] []
 last_cuts t g a b0 x xs found first fits before u [] more is =
@@ -196,9 +197,9 @@ argument_cuts {c = c} {y = y} {ys = ys} b text inside rest t g a b0 x xs found f
     let room : takes g (length xs + 1) ≡ true = takes_one g xs y ys fits in
     begun (ap (λ v. t ∷ (k.Open ∷ ((a ++ b0) ++ (v ∷ d)))) (sym (heads is)))
     (⊎_elim (λ within. in_further_argument found room first before (inside d within.0 (sym within.1)))
-      (λ beyond. begun (ap (λ v. t ∷ (k.Open ∷ ((a ++ b0) ++ (k.Comma ∷ v)))) (sym beyond.1))
-        (next_cuts b t g a b0 c x y xs found room first (fits_more g xs ys y fits) before text rest beyond.0 more (sym beyond.2)))
-      (cut_twice d more c (b ++ (k.Close ∷ [])) (tails is ∙ append_assoc c b (k.Close ∷ []))))
+    (λ beyond. begun (ap (λ v. t ∷ (k.Open ∷ ((a ++ b0) ++ (k.Comma ∷ v)))) (sym beyond.1))
+    (next_cuts b t g a b0 c x y xs found room first (fits_more g xs ys y fits) before text rest beyond.0 more (sym beyond.2)))
+    (cut_twice d more c (b ++ (k.Close ∷ [])) (tails is ∙ append_assoc c b (k.Close ∷ []))))
 
 -- behind the first argument
 first_cuts : {labels : Labels} {ys : List Expr} (b : List Kind) (t : Kind) (g : Func) (a : List Kind) (x : Expr) → function t ≡ Some g → takes g (length ys) ≡ true → Derives labels rule.Conditional a x → ArgumentsCuts labels b ys
@@ -213,8 +214,8 @@ call_cuts b t g a x found fits first inside rest (u ∷ []) more is = begun (ap 
 call_cuts b t g a x found fits first inside rest (u ∷ (v ∷ f)) more is =
     begun (ap (λ w. w ∷ (k.Open ∷ f)) (sym (heads is)) ∙ ap (λ w. u ∷ (w ∷ f)) (sym (heads (tails is))))
     (⊎_elim (λ within. in_argument found (inside f within.0 (sym within.1)))
-      (λ beyond. begun (ap (λ w. t ∷ (k.Open ∷ w)) (sym beyond.1)) (first_cuts b t g a x found fits first rest beyond.0 more (sym beyond.2)))
-      (cut_twice f more a (b ++ (k.Close ∷ [])) (tails (tails is))))
+    (λ beyond. begun (ap (λ w. t ∷ (k.Open ∷ w)) (sym beyond.1)) (first_cuts b t g a x found fits first rest beyond.0 more (sym beyond.2)))
+    (cut_twice f more a (b ++ (k.Close ∷ [])) (tails (tails is))))
 
 mutual
   -- each prefix of a text begins its level

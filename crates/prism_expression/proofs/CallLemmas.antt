@@ -123,10 +123,10 @@ rest_prefix {labels = labels} {g = g} {before = before} {y = y} {ys = ys} p more
     ⊎_elim
     (λ within. inl (told.reach.furthest p r is (record { more = within.0; tree = y; text = subst (λ v. Derives labels rule.Conditional v y) within.1 text })))
     (λ beyond.
-      ⊎_elim (λ short. inl (omega (arith, short, past_rest told)))
-      (λ next. inr (beyond.0, next, record { more = more; tree = ys; text = subst (λ v. IsRest labels g before v ys) beyond.2 others }))
-      (next_text a beyond.0 r y told text (is ∙ ap (λ v. v ++ r) beyond.1 ∙ append_assoc a beyond.0 r)
-        (λ t d here on. rest_stops others t (d ++ more) (beyond.2 ∙ ap (λ v. v ++ more) here) on)))
+    ⊎_elim (λ short. inl (omega (arith, short, past_rest told)))
+    (λ next. inr (beyond.0, next, record { more = more; tree = ys; text = subst (λ v. IsRest labels g before v ys) beyond.2 others }))
+    (next_text a beyond.0 r y told text (is ∙ ap (λ v. v ++ r) beyond.1 ∙ append_assoc a beyond.0 r)
+    (λ t d here on. rest_stops others t (d ++ more) (beyond.2 ∙ ap (λ v. v ++ more) here) on)))
     (cut_twice p more a b equal)
 
 -- ---- arguments so far
@@ -230,7 +230,7 @@ arguments_next {labels = labels} {g = g} {ts = ts} {next = next} {after = after}
   texts = λ p r zs cut text. text_at r (so_far.texts p r zs cut text);
   begun = begun_lesser n m so_far.begun
       (begun_behind ((so_far.a ++ so_far.b) ++ (k.Comma ∷ [])) (so_far.cut ∙ ap (λ v. (so_far.a ++ so_far.b) ++ v) is ∙ sym (append_assoc (so_far.a ++ so_far.b) (k.Comma ∷ []) after))
-        (λ p begins. comma_begins so_far.first so_far.others fits begins) (begun told.reach));
+      (λ p begins. comma_begins so_far.first so_far.others fits begins) (begun told.reach));
   past = omega (arith, past_rest told);
   prefixes = λ p r cut begins. ⊎_elim (λ short. inl (omega (arith, short))) (λ part. prefix_at r part.0 part.1 part.2) (so_far.prefixes p r cut begins);
 }
@@ -261,8 +261,8 @@ no_next {labels = labels} {g = g} {ts = ts} {next = next} {after = after} {n = n
       none.none here.0 (here.1 ++ r) here.2 (here.4 ∙ append_assoc here.0 here.1 r) here.5;
   reach = reach_begun
       (begun_lesser n m so_far.begun
-        (begun_behind ((so_far.a ++ so_far.b) ++ (k.Comma ∷ [])) (so_far.cut ∙ ap (λ v. (so_far.a ++ so_far.b) ++ v) is ∙ sym (append_assoc (so_far.a ++ so_far.b) (k.Comma ∷ []) after))
-          (λ p begins. comma_begins so_far.first so_far.others fits begins) (begun none.reach)))
+      (begun_behind ((so_far.a ++ so_far.b) ++ (k.Comma ∷ [])) (so_far.cut ∙ ap (λ v. (so_far.a ++ so_far.b) ++ v) is ∙ sym (append_assoc (so_far.a ++ so_far.b) (k.Comma ∷ []) after))
+      (λ p begins. comma_begins so_far.first so_far.others fits begins) (begun none.reach)))
       (λ p r cut begins. ⊎_elim (λ short. omega (arith, short)) (λ part. prefix_at r part.0 part.1 part.2) (so_far.prefixes p r cut begins));
 }
   where
@@ -300,10 +300,11 @@ unclosed {labels = labels} {g = g} {ts = ts} {next = next} {n = n} {ys = ys} so_
 pub arguments_whole : {labels : Labels} {g : Func} {ts next after : List Kind} {n : ℕ} {x : Expr} {ys : List Expr} → ArgumentsSoFar labels g ts next n x ys → next ≡ k.Close ∷ after → takes g (length ys) ≡ true
     → (front : List Kind) × (ts ≡ front ++ after) × IsArguments labels g front (x ∷ ys)
 arguments_whole {g = g} {after = after} {ys = ys} so_far is fits =
-    let same : 0 + length ys ≡ length ys = omega arith in
-    (so_far.a ++ (so_far.b ++ (k.Close ∷ [])),
-     so_far.cut ∙ append_assoc so_far.a so_far.b _ ∙ ap (λ v. so_far.a ++ (so_far.b ++ v)) is ∙ ap (λ v. so_far.a ++ v) (sym (append_assoc so_far.b (k.Close ∷ []) after)) ∙ sym (append_assoc so_far.a (so_far.b ++ (k.Close ∷ [])) after),
-     arguments so_far.first (rest (ap (takes g) same ∙ fits) so_far.others))
+    let same : 0 + length ys ≡ length ys = omega arith in (
+      so_far.a ++ (so_far.b ++ (k.Close ∷ [])),
+      so_far.cut ∙ append_assoc so_far.a so_far.b _ ∙ ap (λ v. so_far.a ++ (so_far.b ++ v)) is ∙ ap (λ v. so_far.a ++ v) (sym (append_assoc so_far.b (k.Close ∷ []) after)) ∙ sym (append_assoc so_far.a (so_far.b ++ (k.Close ∷ [])) after),
+      arguments so_far.first (rest (ap (takes g) same ∙ fits) so_far.others),
+    )
 
 -- ---- the `(` before the arguments
 

@@ -43,7 +43,8 @@ tail_more {labels = labels} {l = l} t o a y (link {t = u} {o = p} {a = c} {b = d
 -- an operand begins a chain
 pub operand_begins : {labels : Labels} {l : Precedence} {f : List Kind} → is_chain l ≡ true → IsPrefix (Derives labels (inner l)) f → IsPrefix (Derives labels l) f
 operand_begins {labels = labels} {l = l} {f = f} is_true begins = record {
-  more = begins.more; tree = begins.tree;
+  more = begins.more;
+  tree = begins.tree;
   text = subst (λ v. Derives labels l v begins.tree) (append-nil (f ++ begins.more)) (chain is_true begins.text end);
 }
 
@@ -57,9 +58,9 @@ chain_prefixes {labels = labels} {l = l} {ts = ts} {rest = rest} {n = n} f r is_
         ⊎_elim
         (λ within. inl (told.reach.furthest f r is (record { more = within.0; tree = z; text = subst (λ v. Derives labels (inner l) v z) within.1 operand })))
         (λ beyond.
-          let rest_begins : BeginsTail labels l beyond.0 = record { more = begins.more; operands = ys; operators = os; tail = subst (λ v. ChainTail labels l v ys os) beyond.2 tail } in
-          ⊎_elim (λ short. inl (omega (arith, short, past_rest told))) (λ next. inr (beyond.0, next, rest_begins))
-          (next_text a beyond.0 r z told operand (is ∙ ap (λ v. v ++ r) beyond.1 ∙ append_assoc a beyond.0 r) (begun_stops is_true rest_begins)))
+        let rest_begins : BeginsTail labels l beyond.0 = record { more = begins.more; operands = ys; operators = os; tail = subst (λ v. ChainTail labels l v ys os) beyond.2 tail } in
+        ⊎_elim (λ short. inl (omega (arith, short, past_rest told))) (λ next. inr (beyond.0, next, rest_begins))
+        (next_text a beyond.0 r z told operand (is ∙ ap (λ v. v ++ r) beyond.1 ∙ append_assoc a beyond.0 r) (begun_stops is_true rest_begins)))
         (cut_twice f begins.more a b equal)
 
 -- a chain is its first operand and further ones after it
@@ -136,7 +137,7 @@ chain_next {labels = labels} {l = l} {ts = ts} {rest = rest} {after = after} {ne
   texts = λ f r z is text. ⊎_elim (λ short. inl (omega (arith, short, shorter))) (λ tail. text_next r tail.0 tail.1 tail.2 tail.3 tail.4) (so_far.texts f r z is text);
   begun = begun_lesser n m so_far.begun
       (begun_behind ((so_far.a ++ so_far.b) ++ (t ∷ [])) (so_far.cut ∙ ap (λ v. (so_far.a ++ so_far.b) ++ v) rest_is ∙ sym (append_assoc (so_far.a ++ so_far.b) (t ∷ []) after))
-        (λ f begins. operator_begins t o is_true so_far.operand so_far.tail found begins) (begun told.reach));
+      (λ f begins. operator_begins t o is_true so_far.operand so_far.tail found begins) (begun told.reach));
   past = omega (arith, past_rest told);
   prefixes = λ f r is begins. ⊎_elim (λ short. inl (omega (arith, short))) (λ tail. prefix_next r tail.0 tail.1 tail.2) (so_far.prefixes f r is begins);
 }
@@ -161,9 +162,9 @@ chain_next {labels = labels} {l = l} {ts = ts} {rest = rest} {after = after} {ne
         ⊎_elim
         (λ within. inl (omega (arith, told.reach.furthest d r equal (record { more = within.0; tree = z; text = subst (λ v. Derives labels (inner l) v z) within.1 operand }))))
         (λ beyond.
-          let begins : BeginsTail labels l beyond.0 = record { more = more; operands = us; operators = qs; tail = subst (λ v. ChainTail labels l v us qs) beyond.2 tail } in
-          ⊎_elim (λ short. inl (omega (arith, short, past_rest told))) (λ goes. inr (beyond.0, goes, begins))
-          (next_text a beyond.0 r z told operand (equal ∙ ap (λ v. v ++ r) beyond.1 ∙ append_assoc a beyond.0 r) (begun_stops is_true begins)))
+        let begins : BeginsTail labels l beyond.0 = record { more = more; operands = us; operators = qs; tail = subst (λ v. ChainTail labels l v us qs) beyond.2 tail } in
+        ⊎_elim (λ short. inl (omega (arith, short, past_rest told))) (λ goes. inr (beyond.0, goes, begins))
+        (next_text a beyond.0 r z told operand (equal ∙ ap (λ v. v ++ r) beyond.1 ∙ append_assoc a beyond.0 r) (begun_stops is_true begins)))
         (cut_twice d more a b (tails is))
 
     prefix_next : (r c : List Kind) → rest ≡ c ++ r → BeginsTail labels l c → (min n m ≤ length r) ⊎ ((d : List Kind) × (next ≡ d ++ r) × BeginsTail labels l d)
@@ -210,8 +211,8 @@ chain_stop {labels = labels} {l = l} {ts = ts} {rest = rest} {after = after} {n 
   longest = λ f r y is text. ⊎_elim (λ short. short) (λ tail. no_text r tail.0 tail.3 tail.4) (so_far.texts f r y is text);
   reach = reach_begun
       (begun_lesser n m so_far.begun
-        (begun_behind ((so_far.a ++ so_far.b) ++ (t ∷ [])) (so_far.cut ∙ ap (λ v. (so_far.a ++ so_far.b) ++ v) rest_is ∙ sym (append_assoc (so_far.a ++ so_far.b) (t ∷ []) after))
-          (λ f begins. operator_begins t o is_true so_far.operand so_far.tail found begins) (begun none.reach)))
+      (begun_behind ((so_far.a ++ so_far.b) ++ (t ∷ [])) (so_far.cut ∙ ap (λ v. (so_far.a ++ so_far.b) ++ v) rest_is ∙ sym (append_assoc (so_far.a ++ so_far.b) (t ∷ []) after))
+      (λ f begins. operator_begins t o is_true so_far.operand so_far.tail found begins) (begun none.reach)))
       (λ f r is begins. ⊎_elim (λ short. omega (arith, short)) (λ tail. in_operand r tail.0 tail.1 tail.2) (so_far.prefixes f r is begins));
 }
   where

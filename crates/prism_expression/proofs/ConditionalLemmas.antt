@@ -43,7 +43,14 @@ record Split (labels : Labels) (g : List Kind) (w : Expr × Expr) : Type 0 where
 
 split : {labels : Labels} {g : List Kind} {w : Expr × Expr} → IsBranches labels g w → Split labels g w
 split (branches {b = b} {c = c} {y = y} {z = z} first second) = record {
-  a = b ++ (k.Colon ∷ []); c = c; y = y; z = z; is = ap (λ v. k.Query ∷ v) (sym (append_assoc b (k.Colon ∷ []) c)); first = ended first; second = second }
+  a = b ++ (k.Colon ∷ []);
+  c = c;
+  y = y;
+  z = z;
+  is = ap (λ v. k.Query ∷ v) (sym (append_assoc b (k.Colon ∷ []) c));
+  first = ended first;
+  second = second;
+}
 
 -- a prefix of two branches ends inside the first, or begins the second after it
 data Inside (labels : Labels) (f : List Kind) : Type 0 where
@@ -77,8 +84,10 @@ no_first_branch {labels = labels} {ts = ts} {us = us} is none = record {
   none = λ f r w cut text. let s = split text in
       none.none s.a (s.c ++ r) s.y (tails (sym is ∙ cut ∙ ap (λ v. v ++ r) s.is) ∙ append_assoc s.a s.c r) s.first;
   reach = reach_cons k.Query is (λ f begins. record {
-        more = begins.more ++ (k.True ∷ []); tree = (begins.tree, e.Truth true);
-        text = subst (λ v. IsBranches labels (k.Query ∷ v) (begins.tree, e.Truth true)) (append_assoc f begins.more (k.True ∷ [])) (two_branches begins.text (truth rule.Conditional)) })
+    more = begins.more ++ (k.True ∷ []);
+    tree = (begins.tree, e.Truth true);
+    text = subst (λ v. IsBranches labels (k.Query ∷ v) (begins.tree, e.Truth true)) (append_assoc f begins.more (k.True ∷ [])) (two_branches begins.text (truth rule.Conditional));
+  })
       (λ f r cut begins. cover f r cut begins) none.reach;
 }
   where
@@ -115,9 +124,13 @@ second_behind {labels = labels} {ts = ts} {us = us} {outside = outside} {y = y} 
     second_text : ts ≡ k.Query ∷ us → Found (Until labels) us y outside (length outside) → (f r : List Kind) (w : Expr × Expr) → ts ≡ f ++ r → IsBranches labels f w
         → (g : List Kind) × (z : Expr) × (outside ≡ g ++ r) × Derives labels rule.Conditional g z
     second_text q one f r w cut text =
-        let s = split text in
-        (s.c, s.z, (until_agrees rule.Implication k.Colon refl one.front s.a outside (s.c ++ r) y s.y one.text s.first tt tt
-          (sym one.cut ∙ tails (sym q ∙ cut ∙ ap (λ v. v ++ r) s.is) ∙ append_assoc s.a s.c r)).0, s.second)
+        let s = split text in (
+          s.c,
+          s.z,
+          (until_agrees rule.Implication k.Colon refl one.front s.a outside (s.c ++ r) y s.y one.text s.first tt tt
+              (sym one.cut ∙ tails (sym q ∙ cut ∙ ap (λ v. v ++ r) s.is) ∙ append_assoc s.a s.c r)).0,
+          s.second,
+        )
 
 -- two branches
 pub both_branches : {labels : Labels} {ts us outside rest : List Kind} {y z : Expr} {n : ℕ} → ts ≡ k.Query ∷ us → Found (Until labels) us y outside (length outside)
@@ -130,9 +143,13 @@ pub no_second_branch : {labels : Labels} {ts us outside : List Kind} {y : Expr} 
 no_second_branch {labels = labels} {ts = ts} {outside = outside} {y = y} is first none = behind_missing (second_behind is first) (λ f r w cut text. strict f r w cut (split text)) none
   where
     strict : (f r : List Kind) (w : Expr × Expr) → ts ≡ f ++ r → Split labels f w → (g : List Kind) × (z : Expr) × (outside ≡ g ++ r) × Derives labels rule.Conditional g z
-    strict f r w cut s =
-        (s.c, s.z, (until_agrees rule.Implication k.Colon refl first.front s.a outside (s.c ++ r) y s.y first.text s.first tt tt
-          (sym first.cut ∙ tails (sym is ∙ cut ∙ ap (λ v. v ++ r) s.is) ∙ append_assoc s.a s.c r)).0, s.second)
+    strict f r w cut s = (
+      s.c,
+      s.z,
+      (until_agrees rule.Implication k.Colon refl first.front s.a outside (s.c ++ r) y s.y first.text s.first tt tt
+          (sym first.cut ∙ tails (sym is ∙ cut ∙ ap (λ v. v ++ r) s.is) ∙ append_assoc s.a s.c r)).0,
+      s.second,
+    )
 
 -- ---- the condition
 
@@ -153,9 +170,9 @@ conditional_prefix {labels = labels} {rest = rest} {n = n} f r told is begins = 
         ⊎_elim
         (λ within. inl (told.reach.furthest f r is (record { more = within.0; tree = z; text = subst (λ u. Derives labels rule.Implication u z) within.1 first })))
         (λ beyond.
-          let part : IsPrefix (IsBranches labels) beyond.0 = record { more = begins.more; tree = (v, w); text = subst (λ u. IsBranches labels u (v, w)) beyond.2 (branches second third) } in
-          ⊎_elim (λ short. inl (omega (arith, short, past_rest told))) (λ next. inr (beyond.0, next, part))
-          (next_text a beyond.0 r z told first (is ∙ ap (λ u. u ++ r) beyond.1 ∙ append_assoc a beyond.0 r) (query_stops beyond.0 part)))
+        let part : IsPrefix (IsBranches labels) beyond.0 = record { more = begins.more; tree = (v, w); text = subst (λ u. IsBranches labels u (v, w)) beyond.2 (branches second third) } in
+        ⊎_elim (λ short. inl (omega (arith, short, past_rest told))) (λ next. inr (beyond.0, next, part))
+        (next_text a beyond.0 r z told first (is ∙ ap (λ u. u ++ r) beyond.1 ∙ append_assoc a beyond.0 r) (query_stops beyond.0 part)))
         (cut_twice f begins.more a (k.Query ∷ (b ++ (k.Colon ∷ c))) equal)
 
 -- a conditional text is a condition, with branches after it or not
@@ -166,7 +183,7 @@ conditional_at {labels = labels} f r y told is (conditional_text {a = a} {b = b}
     let part : IsBranches labels (k.Query ∷ (b ++ (k.Colon ∷ c))) (v, w) = branches second third in
     ⊎_elim (λ short. inl short) (λ next. inr (k.Query ∷ (b ++ (k.Colon ∷ c)), (v, w), next, part))
     (next_text a (k.Query ∷ (b ++ (k.Colon ∷ c))) r z told first (is ∙ append_assoc a (k.Query ∷ (b ++ (k.Colon ∷ c))) r)
-      (query_stops (k.Query ∷ (b ++ (k.Colon ∷ c))) (whole_prefix (IsBranches labels) (k.Query ∷ (b ++ (k.Colon ∷ c))) (v, w) part)))
+    (query_stops (k.Query ∷ (b ++ (k.Colon ∷ c))) (whole_prefix (IsBranches labels) (k.Query ∷ (b ++ (k.Colon ∷ c))) (v, w) part)))
 
 -- how far a condition and branches go together
 conditional_reach : {labels : Labels} {ts rest : List Kind} {x : Expr} {n m : ℕ} → Found (Derives labels rule.Implication) ts x rest n → IsReach (IsPrefix (IsBranches labels)) rest m
@@ -182,8 +199,10 @@ conditional_reach {labels = labels} {x = x} {n = n} {m = m} told reach =
 
     behind : (f : List Kind) → IsPrefix (IsBranches labels) f → IsPrefix (Derives labels rule.Conditional) (told.front ++ f)
     behind f begins = record {
-      more = begins.more; tree = e.If x begins.tree.0 begins.tree.1;
-      text = subst (λ v. Derives labels rule.Conditional v (e.If x begins.tree.0 begins.tree.1)) (sym (append_assoc told.front f begins.more)) (whole begins.text) }
+      more = begins.more;
+      tree = e.If x begins.tree.0 begins.tree.1;
+      text = subst (λ v. Derives labels rule.Conditional v (e.If x begins.tree.0 begins.tree.1)) (sym (append_assoc told.front f begins.more)) (whole begins.text);
+    }
 
 -- a condition and branches
 pub conditional_found : {labels : Labels} {ts rest after : List Kind} {x y z : Expr} {n m : ℕ} → Found (Derives labels rule.Implication) ts x rest n → Found (IsBranches labels) rest (y, z) after m

@@ -105,8 +105,10 @@ pub behind_reach : {X Y : Type 0} {Part : List Kind → X → Type 0} {Whole : L
 behind_reach {Whole = Whole} {made = made} b reach =
     reach_begun
     (begun_behind b.before b.cut (λ f begins. record {
-        more = begins.more; tree = made begins.tree;
-        text = subst (λ v. Whole v (made begins.tree)) (sym (append_assoc b.before f begins.more)) (b.up (f ++ begins.more) begins.tree begins.text) }) (begun reach))
+      more = begins.more;
+      tree = made begins.tree;
+      text = subst (λ v. Whole v (made begins.tree)) (sym (append_assoc b.before f begins.more)) (b.up (f ++ begins.more) begins.tree begins.text);
+    }) (begun reach))
     (λ f r is begins. ⊎_elim (λ short. omega (arith, short, reach_within reach)) (λ part. reach.furthest part.0 r part.1 part.2) (b.prefixes f r is begins))
 
 -- where the part is found, so is the whole

@@ -105,7 +105,7 @@ call_behind {labels = labels} {f = f} {ts = ts} {us = us} t is_function is = rec
       ⊎_elim (λ none. inl (omega (arith, ap length p.1, ap length none, length-append p.0 r))) (λ q. inr (p.0, q.0, p.1, q.1)) (named is_function p.2);
   prefixes = λ g r cut begins. ⊎_elim (λ none. inl (omega (arith, ap length cut, ap length none, ap length is, length-append g r)))
       (λ p. ⊎_elim (λ none. inl (omega (arith, ap length p.3, ap length none, length-append p.0 r, length-append p.0 p.1)))
-        (λ q. inr (p.0, p.3, record { more = p.1; tree = q.0; text = q.1 })) (named is_function p.4))
+      (λ q. inr (p.0, p.3, record { more = p.1; tree = q.0; text = q.1 })) (named is_function p.4))
       (after_prefix t g r is cut begins);
 }
 

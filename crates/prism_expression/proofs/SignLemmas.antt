@@ -120,7 +120,7 @@ pub signed_found : {labels : Labels} {l m : Precedence} {tokens rest after : Lis
 signed_found {labels = labels} {l = l} {tokens = tokens} {rest = rest} {after = after} {left = left} {x = x} {tree = tree} is_true level_is tree_is passed told =
     let inside : Found (Derives labels (inner l)) (kinds rest) x (kinds after) left = subst (λ v. Found (Derives labels v) (kinds rest) x (kinds after) left) level_is (longest_found told) in
     let whole : Found (Derives labels l) (kinds (passed.prefix ++ rest)) (wrapped l (length passed.prefix) x) (kinds after) left =
-        signs_found passed.prefix rest passed.signs (behind_found (bare_behind is_true (without_kinds (λ t. is_sign l t ≡ true) rest passed.ends)) inside) in
+    signs_found passed.prefix rest passed.signs (behind_found (bare_behind is_true (without_kinds (λ t. is_sign l t ≡ true) rest passed.ends)) inside) in
     let same : tree ≡ wrapped l (length passed.prefix) x = tree_is ∙ ap (λ n. wrapped l n x) (sym passed.many) in
     found_longest (cut_on (passed.prefix, passed.cut) (longest_cut told))
     (subst (λ v. Found (Derives labels l) (kinds v) tree (kinds after) left) (sym passed.cut) (subst (λ v. Found (Derives labels l) (kinds (passed.prefix ++ rest)) v (kinds after) left) (sym same) whole))

@@ -56,7 +56,7 @@ until_missing {labels = labels} {l = l} t {ts = ts} none = record {
   none = λ f r y is text. no_text f r y is text;
   reach = reach_same (λ f begins. level_begins t begins)
       (λ f r is begins. ⊎_elim (λ inside. inside) (λ whole. absurd (none.none whole.0 ((t ∷ []) ++ r) whole.1 (is ∙ ap (λ v. v ++ r) whole.2 ∙ append_assoc whole.0 (t ∷ []) r) whole.3))
-        (until_prefix f begins.more begins.text refl)) none.reach;
+      (until_prefix f begins.more begins.text refl)) none.reach;
 }
   where
     no_text : (f r : List Kind) (y : Expr) → ts ≡ f ++ r → Ended (Derives labels l) t f y → ⊥
@@ -69,7 +69,7 @@ until_open {labels = labels} {l = l} t {ts = ts} {rest = rest} stops told other 
   none = λ f r y is text. no_text f r y is text;
   reach = reach_same (λ f begins. level_begins t begins)
       (λ f r is begins. ⊎_elim (λ inside. inside) (λ whole. absurd (at whole.0 r whole.1 (is ∙ ap (λ v. v ++ r) whole.2 ∙ append_assoc whole.0 (t ∷ []) r) whole.3))
-        (until_prefix f begins.more begins.text refl)) told.reach;
+      (until_prefix f begins.more begins.text refl)) told.reach;
 }
   where
     at : (a r : List Kind) (y : Expr) → ts ≡ a ++ (t ∷ r) → Derives labels l a y → ⊥
