@@ -140,12 +140,12 @@ module_begun = made_begun module_made (after_begun k.Module (both_has name_has m
 ends_to : (p more l : List Kind) (x : Unit {0}) → EndsRewards l x → l ≡ p ++ more → BeginsEnd p
 ends_to p more _ _ (ends a none) equal =
     elim (overlap p more a (k.EndRewards ∷ []) (sym equal)) [
-      within [] is rest ↦ subst BeginsEnd (sym (is ∙ append-nil a)) (inside a none)
-    | within (t ∷ []) is rest ↦
-        let same : t ≡ k.EndRewards = cc in
-        subst BeginsEnd (sym (is ∙ ap (λ u. a ++ (u ∷ [])) same)) (whole a none)
-    | within (t ∷ (u ∷ m)) is rest ↦ absurd (cc)
-    | beyond t m is rest ↦ inside p (all_front GoesOn p (t ∷ m) (subst (All GoesOn) is none))
+      | within [] is rest ↦ subst BeginsEnd (sym (is ∙ append-nil a)) (inside a none)
+      | within (t ∷ []) is rest ↦
+          let same : t ≡ k.EndRewards = cc in
+          subst BeginsEnd (sym (is ∙ ap (λ u. a ++ (u ∷ [])) same)) (whole a none)
+      | within (t ∷ (u ∷ m)) is rest ↦ absurd (cc)
+      | beyond t m is rest ↦ inside p (all_front GoesOn p (t ∷ m) (subst (All GoesOn) is none))
     ]
 
 ends_back : (p : List Kind) → BeginsEnd p → IsPrefix EndsRewards p

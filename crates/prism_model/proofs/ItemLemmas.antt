@@ -243,10 +243,10 @@ pub no_word : (ts rest : List Token) (first : Token) → ts ≡ first ∷ rest �
     → (first.kind ≡ k.Module → ⊥) → (first.kind ≡ k.Label → ⊥) → (first.kind ≡ k.Rewards → ⊥) → Fails IsItem Anything ts (length ts)
 no_word ts rest first cut w v u s r q =
     misses ts words_start item_has (λ t l equal by.
-        let whole : kinds ts ≡ first.kind ∷ kinds rest = ap kinds cut in
-        let same : t ≡ first.kind = cc in
-        let by_first : BeginsItem first.kind = subst BeginsItem same by in
-        other_word first.kind by_first.0 by_first.1 by_first.2 w v u s r q)
+    let whole : kinds ts ≡ first.kind ∷ kinds rest = ap kinds cut in
+    let same : t ≡ first.kind = cc in
+    let by_first : BeginsItem first.kind = subst BeginsItem same by in
+    other_word first.kind by_first.0 by_first.1 by_first.2 w v u s r q)
 
 pub no_item_at_end : (ts : List Token) → length ts < 1 → Fails IsItem Anything ts 0
 no_item_at_end [] short = misses [] words_start item_has (λ t l equal by. cc)

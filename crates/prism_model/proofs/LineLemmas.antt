@@ -134,7 +134,7 @@ variable_back _ _ (model.IsVariable.ranged {a} {b} {c} {n} {x} {y} {z} low high 
     record {
       parts = parts;
       text = subst (λ l. VariableParts (k.Name n ∷ (k.Colon ∷ (k.OpenBracket ∷ l))) parts) (range_regroup a b (c ++ (k.Semicolon ∷ [])))
-        (both name (both terminal (both (sequence.made (sequence.first (both terminal (both (ended low) (ended high))))) (ended init))));
+          (both name (both terminal (both (sequence.made (sequence.first (both terminal (both (ended low) (ended high))))) (ended init))));
       is = refl;
     }
 variable_back _ _ (model.IsVariable.truth {n} {z} init) =

@@ -54,7 +54,7 @@ pub end_found : {ts rest after : List Token} (t : Token) → Passed ts rest → 
 end_found {ts} {rest} {after} t passed cut is =
     let whole : ts ≡ (passed.before ++ (t ∷ [])) ++ after = passed.cut ∙ ap (λ l. passed.before ++ l) cut ∙ sym (append_assoc passed.before (t ∷ []) after) in
     let all : kinds passed.before ++ (k.EndRewards ∷ []) ≡ kinds (passed.before ++ (t ∷ [])) =
-        ap (λ u. kinds passed.before ++ (u ∷ [])) (sym is) ∙ sym (map-append (λ u. u.kind) passed.before (t ∷ [])) in
+    ap (λ u. kinds passed.before ++ (u ∷ [])) (sym is) ∙ sym (map-append (λ u. u.kind) passed.before (t ∷ [])) in
     found ts (passed.before ++ (t ∷ [])) after tt ends_definite whole (subst (λ l. EndsRewards l tt) all (ends (kinds passed.before) passed.none)) tt
 
 no_ends : (l p rest : List Kind) (x : Unit {0}) → All GoesOn l → l ≡ p ++ rest → EndsRewards p x → ⊥

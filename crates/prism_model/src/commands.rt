@@ -58,10 +58,7 @@ fn command<'a>(alloc: Global, tokens: &'a [Token]) -> Result<(Command, &'a [Toke
 }
 
 /// The action that begins the tokens, if one does, and the tokens after the `]` that has to follow.
-fn action<'a>(
-    alloc: Global,
-    tokens: &'a [Token],
-) -> Result<(Option<Text>, &'a [Token]), Mismatch>
+fn action<'a>(alloc: Global, tokens: &'a [Token]) -> Result<(Option<Text>, &'a [Token]), Mismatch>
     ensures { Answers
         (λ r. Parses IsActionEnded Anything tokens.now r.0 r.1.now (length r.1.now))
         (Fails IsActionEnded Anything tokens.now)

@@ -29,8 +29,8 @@ one_prefix t (u ∷ (v ∷ p)) more equal = absurd (cc)
 terminal_to : (kind : Kind) (p more l : List Kind) (x : Unit {0}) → IsTerminal kind l x → l ≡ p ++ more → BeginsTerminal kind p
 terminal_to kind p more _ _ terminal equal =
     elim (one_prefix kind p more equal) [
-      inl is ↦ rw is begin.BeginsTerminal.nothing
-    | inr is ↦ rw is begin.BeginsTerminal.whole
+      | inl is ↦ rw is begin.BeginsTerminal.nothing
+      | inr is ↦ rw is begin.BeginsTerminal.whole
     ]
 
 terminal_back : (kind : Kind) (p : List Kind) → BeginsTerminal kind p → IsPrefix (IsTerminal kind) p
@@ -47,8 +47,8 @@ terminal_begun kind = record {
 name_to : (p more l : List Kind) (x : List ℕ) → IsName l x → l ≡ p ++ more → BeginsName p
 name_to p more _ x name equal =
     elim (one_prefix (k.Name x) p more equal) [
-      inl is ↦ rw is begin.BeginsName.nothing
-    | inr is ↦ rw is begin.BeginsName.whole
+      | inl is ↦ rw is begin.BeginsName.nothing
+      | inr is ↦ rw is begin.BeginsName.whole
     ]
 
 name_back : (p : List Kind) → BeginsName p → IsPrefix IsName p
@@ -65,8 +65,8 @@ name_begun = record {
 quoted_to : (p more l : List Kind) (x : List ℕ) → IsQuoted l x → l ≡ p ++ more → BeginsQuoted p
 quoted_to p more _ x quoted equal =
     elim (one_prefix (k.Quoted x) p more equal) [
-      inl is ↦ rw is begin.BeginsQuoted.nothing
-    | inr is ↦ rw is begin.BeginsQuoted.whole
+      | inl is ↦ rw is begin.BeginsQuoted.nothing
+      | inr is ↦ rw is begin.BeginsQuoted.whole
     ]
 
 quoted_back : (p : List Kind) → BeginsQuoted p → IsPrefix IsQuoted p
@@ -131,8 +131,8 @@ each_to [] more _ _ one model.Each.end equal = begin.BeginsEach.nothing
 each_to (t ∷ p) more _ _ one model.Each.end equal = absurd (cc)
 each_to {Rule} {Begins} p more _ _ one (model.Each.more {a} {b} {x} {xs} first others) equal =
     elim (overlap p more a b (sym equal)) [
-      within m is rest ↦ subst (λ l. BeginsEach Rule Begins l) (sym is) (begin.BeginsEach.after first (each_to m more b xs one others rest))
-    | beyond t m is rest ↦ begin.BeginsEach.inside (one.to p (record { more = t ∷ m; tree = x; text = subst (λ l. Rule l x) is first }))
+      | within m is rest ↦ subst (λ l. BeginsEach Rule Begins l) (sym is) (begin.BeginsEach.after first (each_to m more b xs one others rest))
+      | beyond t m is rest ↦ begin.BeginsEach.inside (one.to p (record { more = t ∷ m; tree = x; text = subst (λ l. Rule l x) is first }))
     ]
 
 each_back : {X : Type 0} {Rule : List Kind → X → Type 0} {Begins : List Kind → Type 0} (p : List Kind)
@@ -159,13 +159,13 @@ separated_to {Rule} between p more _ _ one (model.Separated.one {a} {x} first) e
     begin.BeginsSeparated.inside (one.to p (record { more = more; tree = x; text = subst (λ l. Rule l x) equal first }))
 separated_to {Rule} {Begins} between p more _ _ one (model.Separated.more {a} {b} {x} {xs} first others) equal =
     elim (overlap p more a (between ∷ b) (sym equal)) [
-      within [] is rest ↦ begin.BeginsSeparated.inside (one.to p (subst (λ l. IsPrefix Rule l) (sym (is ∙ append-nil a)) (text_begins x first)))
-    | within (t ∷ m) is rest ↦
-        let same : t ≡ between = cc in
-        let cut : b ≡ m ++ more = cc in
-        let whole : p ≡ a ++ (between ∷ m) = is ∙ ap (λ u. a ++ (u ∷ m)) same in
-        subst (λ l. BeginsSeparated between Rule Begins l) (sym whole) (begin.BeginsSeparated.after first (separated_to between m more b xs one others cut))
-    | beyond t m is rest ↦ begin.BeginsSeparated.inside (one.to p (record { more = t ∷ m; tree = x; text = subst (λ l. Rule l x) is first }))
+      | within [] is rest ↦ begin.BeginsSeparated.inside (one.to p (subst (λ l. IsPrefix Rule l) (sym (is ∙ append-nil a)) (text_begins x first)))
+      | within (t ∷ m) is rest ↦
+          let same : t ≡ between = cc in
+          let cut : b ≡ m ++ more = cc in
+          let whole : p ≡ a ++ (between ∷ m) = is ∙ ap (λ u. a ++ (u ∷ m)) same in
+          subst (λ l. BeginsSeparated between Rule Begins l) (sym whole) (begin.BeginsSeparated.after first (separated_to between m more b xs one others cut))
+      | beyond t m is rest ↦ begin.BeginsSeparated.inside (one.to p (record { more = t ∷ m; tree = x; text = subst (λ l. Rule l x) is first }))
     ]
 
 separated_back : {X : Type 0} {Rule : List Kind → X → Type 0} {Begins : List Kind → Type 0} (between : Kind) (p : List Kind)

@@ -142,7 +142,7 @@ none_after : {X Y : Type 0} {A : List Kind → X → Type 0} {B : List Kind → 
     → IsDefinite A Before → Leads B Follows Before → Parses A Before ts x r m → Fails B Follows r left → kinds ts ≡ l ++ after → Both A B l z → Follows after → ⊥
 none_after {r} {x} left _ rest _ definite leads one fails cut (both {a} {b} {x = w} {y} first second) follows =
     let same = definite.agrees (kinds one.prefix) a (kinds r) (b ++ rest) x w one.text first one.follows (leads.whole b rest y second follows)
-        (sym (kinds_cut one) ∙ cut_first a b rest cut) in
+    (sym (kinds_cut one) ∙ cut_first a b rest cut) in
     fails.none b rest y same.0 second follows
 
 second_furthest : {X Y : Type 0} {A : List Kind → X → Type 0} {B : List Kind → Y → Type 0} {Before Follows : List Kind → Type 0} {ts r : List Token} {x : X} {m : ℕ} (left : ℕ) (p rest : List Kind)
@@ -152,7 +152,7 @@ second_furthest {r} {x} left p rest definite leads one fails cut (in_first begin
     omega (arith, least, reach_within fails.reach)
 second_furthest {r} {x} left p rest definite leads one fails cut (in_second a w t m is first begins) =
     let same = definite.agrees (kinds one.prefix) a (kinds r) ((t ∷ m) ++ rest) x w one.text first one.follows (leads.begun t m rest begins)
-        (sym (kinds_cut one) ∙ cut ∙ ap (λ l. l ++ rest) is ∙ append_assoc a (t ∷ m) rest) in
+    (sym (kinds_cut one) ∙ cut ∙ ap (λ l. l ++ rest) is ∙ append_assoc a (t ∷ m) rest) in
     fails.reach.furthest (t ∷ m) rest same.0 begins
 
 -- where the first is found and the second is missing after it, both are missing

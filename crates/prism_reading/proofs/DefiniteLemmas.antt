@@ -65,7 +65,7 @@ closed_stops : {X : Type 0} {Rule : List Kind → X → Type 0} → Agrees Rule 
 closed_stops agrees a r p after x text begins (within m first second) = omega (arith, ap length second, length-append m r)
 closed_stops agrees a r p after x text begins (beyond t m first second) =
     let equal : a ++ ((t ∷ m) ++ begins.more) ≡ (p ++ begins.more) ++ [] =
-        sym (append_assoc a (t ∷ m) begins.more) ∙ ap (λ l. l ++ begins.more) (sym first) ∙ sym (append-nil (p ++ begins.more)) in
+    sym (append_assoc a (t ∷ m) begins.more) ∙ ap (λ l. l ++ begins.more) (sym first) ∙ sym (append-nil (p ++ begins.more)) in
     let same = agrees a (p ++ begins.more) ((t ∷ m) ++ begins.more) [] x begins.tree text begins.text tt tt equal in
     let never : t ∷ (m ++ begins.more) ≡ [] = same.0 in
     absurd (cc)

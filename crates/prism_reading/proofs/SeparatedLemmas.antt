@@ -102,9 +102,9 @@ further_found {between} {Rule} {ts} {r} {next} {s} {x} {ys} divides one token mo
     let cut : ts ≡ (one.prefix ++ (token.prefix ++ more.prefix)) ++ s = one.cut ∙ ap (λ l. one.prefix ++ l) inner ∙ sym (append_assoc one.prefix (token.prefix ++ more.prefix) s) in
     let text : Separated between Rule (kinds one.prefix ++ (between ∷ kinds more.prefix)) (x ∷ ys) = model.Separated.more one.text more.text in
     let middle : kinds (token.prefix ++ more.prefix) ≡ between ∷ kinds more.prefix =
-        map-append (λ t. t.kind) token.prefix more.prefix ∙ ap (λ l. l ++ kinds more.prefix) (one_token between (kinds token.prefix) tt token.text) in
+    map-append (λ t. t.kind) token.prefix more.prefix ∙ ap (λ l. l ++ kinds more.prefix) (one_token between (kinds token.prefix) tt token.text) in
     let whole : kinds (one.prefix ++ (token.prefix ++ more.prefix)) ≡ kinds one.prefix ++ (between ∷ kinds more.prefix) =
-        map-append (λ t. t.kind) one.prefix (token.prefix ++ more.prefix) ∙ ap (λ l. kinds one.prefix ++ l) middle in
+    map-append (λ t. t.kind) one.prefix (token.prefix ++ more.prefix) ∙ ap (λ l. kinds one.prefix ++ l) middle in
     found ts (one.prefix ++ (token.prefix ++ more.prefix)) s (x ∷ ys) (separated_definite divides) cut
     (subst (λ l. Separated between Rule l (x ∷ ys)) (sym whole) text) more.follows
 

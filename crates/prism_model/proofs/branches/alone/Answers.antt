@@ -19,7 +19,7 @@ pub returns-in_err-rest : goal.returns-in_err-rest
 returns-in_err-rest c = passed _ _ _ c.in_err-rest.field-0.0 c.from_residual-in_err-rest.result c.from_residual-in_err-rest.ensures.1 c.in_err-rest.ensures (λ left none. alone_missing c.requires (second_missing update_definite semicolon_update c.in_ok-sets.ensures none.0))
 
 pub returns : goal.returns
-returns c = 
+returns c =
     let branch : Branch = record { weight = None; sets = c.in_ok-sets.sets } in
     let pushed : c.push.new.self ≡ branch ∷ [] = c.in_ok-push.ensures.ok ∙ ap (λ l. l ++ (branch ∷ [])) c.new-branches.ensures in
     rw pushed (made_found branches_made (first_found branches_parts_definite (both_found alone_definite c.in_ok-sets.ensures c.in_ok-rest.ensures)))

@@ -11,11 +11,11 @@ pub loop-branches-smaller : goal.loop-branches-smaller
 loop-branches-smaller c = further_shorter c.in_ok-branch.ensures c.in-Some.ensures
 
 pub loop-branches-preserved : goal.loop-branches-preserved
-loop-branches-preserved c = 
+loop-branches-preserved c =
     let pushed : c.push.new.self ≡ c.loop-branches.branches ++ (c.in_ok-branch.branch ∷ []) = c.in_ok-push.ensures.ok in
     rw pushed (separated_onward branches_divide weighted_has c.loop-branches.invariant c.in_ok-branch.ensures c.in-Some.ensures)
 
 pub returns-in-None : goal.returns-in-None
-returns-in-None c = 
+returns-in-None c =
     let pushed : c.push.new.self ≡ c.loop-branches.branches ++ (c.in_ok-branch.branch ∷ []) = c.in_ok-push.ensures.ok in
     rw pushed (c.loop-branches.invariant.all (c.in_ok-branch.branch ∷ []) c.in_ok-branch.end.now (last_found branches_divide (c.in_ok-branch.ensures.follows, c.in-None.ensures) c.in_ok-branch.ensures))

@@ -24,7 +24,7 @@ pub returns-in_err-branches : goal.returns-in_err-branches
 returns-in_err-branches c = passed _ _ _ c.in_err-branches.field-0.0 c.from_residual-in_err-branches.result c.from_residual-in_err-branches.ensures.1 c.in_err-branches.ensures (λ left none. made_missing command_made (past c.in_ok-rest.ensures (later action_definite c.in_ok-action.ensures (later (until_definite k.Arrow refl) c.in_ok-guard.ensures none))))
 
 pub returns : goal.returns
-returns c = 
+returns c =
     let rest = both_closed action_definite guard_definite in
     made_found command_made
     (both_found (after_token k.OpenBracket rest) c.in_ok-rest.ensures (both_found rest c.in_ok-action.ensures (both_found guard_definite c.in_ok-guard.ensures c.in_ok-branches.ensures)))

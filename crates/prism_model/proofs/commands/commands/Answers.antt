@@ -12,7 +12,7 @@ pub loop-alloc-smaller : goal.loop-alloc-smaller
 loop-alloc-smaller c = shorter command_starts c.in_ok-next.ensures
 
 pub loop-alloc-preserved : goal.loop-alloc-preserved
-loop-alloc-preserved c = 
+loop-alloc-preserved c =
     let pushed : c.push.new.self ≡ c.loop-alloc.commands ++ (c.in_ok-next.next ∷ []) = c.in_ok-push.ensures.ok in
     rw pushed (each_onward commands_repeat (rw c.loop-alloc-test.true at (accepted _ _ c.accept.result c.is_some.result c.accept.ensures c.is_some.ensures)) c.loop-alloc.invariant c.in_ok-next.ensures)
 

@@ -8,21 +8,21 @@ pub returns-in-empty : goal.returns-in-empty
 returns-in-empty c = no_sort_at_end c.args.tokens.now c.in-empty.len_below
 
 pub returns-in-Int : goal.returns-in-Int
-returns-in-Int c = 
+returns-in-Int c =
     sort_found c.args.tokens.now _ c.first-item.result _
     (first_of c.args.tokens.now c.first-item.result c.in-len1-up.len_at_least c.first-item.is) (ap sort_of c.in-Int.is)
 
 pub returns-in-Double : goal.returns-in-Double
-returns-in-Double c = 
+returns-in-Double c =
     sort_found c.args.tokens.now _ c.first-item.result _
     (first_of c.args.tokens.now c.first-item.result c.in-len1-up.len_at_least c.first-item.is) (ap sort_of c.in-Double.is)
 
 pub returns-in-Bool : goal.returns-in-Bool
-returns-in-Bool c = 
+returns-in-Bool c =
     sort_found c.args.tokens.now _ c.first-item.result _
     (first_of c.args.tokens.now c.first-item.result c.in-len1-up.len_at_least c.first-item.is) (ap sort_of c.in-Bool.is)
 
 pub returns-in_default : goal.returns-in_default
-returns-in_default c = 
-    no_sort c.args.tokens.now _ c.first-item.result 
+returns-in_default c =
+    no_sort c.args.tokens.now _ c.first-item.result
     (first_of c.args.tokens.now c.first-item.result c.in-len1-up.len_at_least c.first-item.is) (no_word _ c.in_default.not-Int c.in_default.not-Double c.in_default.not-Bool)

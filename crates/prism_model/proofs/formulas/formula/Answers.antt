@@ -22,7 +22,7 @@ pub returns-in_err-body : goal.returns-in_err-body
 returns-in_err-body c = passed _ _ _ c.in_err-body.field-0.0 c.from_residual-in_err-body.result c.from_residual-in_err-body.ensures.1 c.in_err-body.ensures (λ left none. made_missing formula_made (past c.in_ok-rest.ensures (later name_definite c.in_ok-name.ensures (past c.in_ok-rest-2.ensures none))))
 
 pub returns : goal.returns
-returns c = 
+returns c =
     made_found formula_made
     (both_found (after_token k.Formula (both_closed name_definite named_rest_definite)) c.in_ok-rest.ensures
     (both_found (both_closed name_definite named_rest_definite) c.in_ok-name.ensures (both_found named_rest_definite c.in_ok-rest-2.ensures c.in_ok-body.ensures)))

@@ -43,6 +43,6 @@ pub returns-in-empty : goal.returns-in-empty
 returns-in-empty c = no_item_at_end c.args.tokens.now c.in-empty.len_below
 
 pub returns-in_default : goal.returns-in_default
-returns-in_default c = 
+returns-in_default c =
     no_word c.args.tokens.now _ c.first-item.result (first_of c.args.tokens.now c.first-item.result c.in-len1-up.len_at_least c.first-item.is)
     c.in_default.not-Const c.in_default.not-Global c.in_default.not-Formula c.in_default.not-Module c.in_default.not-Label c.in_default.not-Rewards

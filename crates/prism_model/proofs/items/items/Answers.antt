@@ -5,7 +5,7 @@ use Rattle.prism_reading.proofs.EachLemmas.{shorter}
 use Rattle.prism_model.proofs.items.items.Goals as goal
 
 pub loop-rest-init : goal.loop-rest-init
-loop-rest-init c = 
+loop-rest-init c =
     collected_begun _ _ (λ i. record { consts = c.new.ensures i; globals = c.new-2.ensures i; formulas = c.new-3.ensures i; modules = c.new-4.ensures i; labels = c.new-5.ensures i })
 
 pub loop-rest-preserved : goal.loop-rest-preserved

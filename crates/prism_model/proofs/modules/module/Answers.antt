@@ -24,14 +24,14 @@ pub returns-in_err-vars-in-None : goal.returns-in_err-vars-in-None
 returns-in_err-vars-in-None c = passed _ _ _ c.in_err-vars-in-None.field-0.0 c.from_residual-in_err-vars-in-None.result c.from_residual-in_err-vars-in-None.ensures.1 c.in_err-vars-in-None.ensures (λ left none. made_missing module_made (past c.in_ok-rest.ensures (past_name c.in_ok-name.ensures (second_alone (here renaming_has (no_token _ c.in-None.ensures)) none))))
 
 pub returns-in_ok-source-in-Some : goal.returns-in_ok-source-in-Some
-returns-in_ok-source-in-Some c = 
+returns-in_ok-source-in-Some c =
     let rest = both_closed name_definite module_rest_definite in
     made_found module_made
     (both_found (after_token k.Module rest) c.in_ok-rest.ensures (both_found rest c.in_ok-name.ensures
     (first_found module_rest_definite (both_found (after_token k.Equal renaming_definite) c.in-Some.ensures c.in_ok-source-in-Some.ensures))))
 
 pub returns-in_ok-vars-in-None : goal.returns-in_ok-vars-in-None
-returns-in_ok-vars-in-None c = 
+returns-in_ok-vars-in-None c =
     let rest = both_closed name_definite module_rest_definite in
     made_found module_made
     (both_found (after_token k.Module rest) c.in_ok-rest.ensures (both_found rest c.in_ok-name.ensures (second_found module_rest_definite c.in_ok-vars-in-None.ensures)))

@@ -18,7 +18,7 @@ pub returns-in_err-rest-in-None : goal.returns-in_err-rest-in-None
 returns-in_err-rest-in-None c = passed _ _ _ c.in_err-rest-in-None.field-0.0 c.from_residual-in_err-rest-in-None.result c.from_residual-in_err-rest-in-None.ensures.1 c.in_err-rest-in-None.ensures (λ left none. made_missing (optional_made _) (second_alone (here (until_has k.Semicolon) (no_token _ c.in-None.ensures)) none.0))
 
 pub returns-in_ok-value-in-Some : goal.returns-in_ok-value-in-Some
-returns-in_ok-value-in-Some c = 
+returns-in_ok-value-in-Some c =
     made_found (optional_made _)
     (first_found (optional_parts_definite _ c.requires) (both_found (after_token _ (until_definite k.Semicolon refl)) c.in-Some.ensures c.in_ok-value-in-Some.ensures))
 

@@ -18,6 +18,6 @@ pub returns-in_err-to : goal.returns-in_err-to
 returns-in_err-to c = passed _ _ _ c.in_err-to.field-0.0 c.from_residual-in_err-to.result c.from_residual-in_err-to.ensures.1 c.in_err-to.ensures (λ left none. made_missing pair_made (past_name c.in_ok-from.ensures (past c.in_ok-rest.ensures none.0)))
 
 pub returns : goal.returns
-returns c = 
+returns c =
     let rest = after_token k.Equal name_definite in
     made_found pair_made (both_found (both_closed name_definite rest) c.in_ok-from.ensures (both_found rest c.in_ok-rest.ensures c.in_ok-to.ensures))

@@ -11,11 +11,11 @@ pub loop-pairs-smaller : goal.loop-pairs-smaller
 loop-pairs-smaller c = further_shorter c.in_ok-next.ensures c.in-Some.ensures
 
 pub loop-pairs-preserved : goal.loop-pairs-preserved
-loop-pairs-preserved c = 
+loop-pairs-preserved c =
     let pushed : c.push.new.self ≡ c.loop-pairs.pairs ++ (c.in_ok-next.next ∷ []) = c.in_ok-push.ensures.ok in
     rw pushed (separated_onward pairs_divide pair_has c.loop-pairs.invariant c.in_ok-next.ensures c.in-Some.ensures)
 
 pub returns-in-None : goal.returns-in-None
-returns-in-None c = 
+returns-in-None c =
     let pushed : c.push.new.self ≡ c.loop-pairs.pairs ++ (c.in_ok-next.next ∷ []) = c.in_ok-push.ensures.ok in
     rw pushed (c.loop-pairs.invariant.all (c.in_ok-next.next ∷ []) c.in_ok-next.end.now (last_found pairs_divide c.in-None.ensures c.in_ok-next.ensures))

@@ -24,7 +24,7 @@ pub returns-in_err-rest-3 : goal.returns-in_err-rest-3
 returns-in_err-rest-3 c = passed _ _ _ c.in_err-rest-3.field-0.0 c.from_residual-in_err-rest-3.result c.from_residual-in_err-rest-3.ensures.1 c.in_err-rest-3.ensures (λ left none. made_missing is_made (past_name c.in_ok-source.ensures (past c.in_ok-rest.ensures (second_missing (separated_definite pairs_divide) bracket_pairs c.in_ok-pairs.ensures (past c.in_ok-rest-2.ensures none.0)))))
 
 pub returns : goal.returns
-returns c = 
+returns c =
     let rest = after_token k.OpenBracket renaming_pairs_definite in
     made_found is_made
     (both_found (both_closed name_definite rest) c.in_ok-source.ensures (both_found rest c.in_ok-rest.ensures

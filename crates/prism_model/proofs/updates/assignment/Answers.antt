@@ -25,7 +25,7 @@ pub returns-in_err-value : goal.returns-in_err-value
 returns-in_err-value c = passed _ _ _ c.in_err-value.field-0.0 c.from_residual-in_err-value.result c.from_residual-in_err-value.ensures.1 c.in_err-value.ensures (λ left none. made_missing assign_made (past c.in_ok-rest.ensures (past_name c.in_ok-name.ensures (past c.in_ok-rest-2.ensures (past c.in_ok-rest-3.ensures none)))))
 
 pub returns : goal.returns
-returns c = 
+returns c =
     let ends = after_token k.Prime assign_end_definite in
     let names = both_closed name_definite ends in
     made_found assign_made

@@ -11,11 +11,11 @@ pub loop-sets-smaller : goal.loop-sets-smaller
 loop-sets-smaller c = further_shorter c.in_ok-set.ensures c.in-Some.ensures
 
 pub loop-sets-preserved : goal.loop-sets-preserved
-loop-sets-preserved c = 
+loop-sets-preserved c =
     let pushed : c.push.new.self ≡ c.loop-sets.sets ++ (c.in_ok-set.set ∷ []) = c.in_ok-push.ensures.ok in
     rw pushed (separated_onward assigns_divide assign_has c.loop-sets.invariant c.in_ok-set.ensures c.in-Some.ensures)
 
 pub returns-in-None : goal.returns-in-None
-returns-in-None c = 
+returns-in-None c =
     let pushed : c.push.new.self ≡ c.loop-sets.sets ++ (c.in_ok-set.set ∷ []) = c.in_ok-push.ensures.ok in
     rw pushed (c.loop-sets.invariant.all (c.in_ok-set.set ∷ []) c.in_ok-set.end.now (last_found assigns_divide c.in-None.ensures c.in_ok-set.ensures))

@@ -20,7 +20,7 @@ pub returns-in_err-rest-in-None : goal.returns-in_err-rest-in-None
 returns-in_err-rest-in-None c = passed _ _ _ c.in_err-rest-in-None.field-0.0 c.from_residual-in_err-rest-in-None.result c.from_residual-in_err-rest-in-None.ensures.1 c.in_err-rest-in-None.ensures (λ left none. made_missing is_made (second_alone (here (both_has (until_has k.Dots) (until_has k.CloseBracket)) (no_token _ c.in-None.ensures)) none.0))
 
 pub returns-in_ok-high-in-Some : goal.returns-in_ok-high-in-Some
-returns-in_ok-high-in-Some c = 
+returns-in_ok-high-in-Some c =
     let ends = both_closed (until_definite k.Dots refl) (until_definite k.CloseBracket refl) in
     made_found is_made
     (first_found range_parts_definite (both_found (after_token k.OpenBracket ends) c.in-Some.ensures (both_found ends c.in_ok-low-in-Some.ensures c.in_ok-high-in-Some.ensures)))

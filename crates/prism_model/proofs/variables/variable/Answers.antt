@@ -21,7 +21,7 @@ pub returns-in_err-init : goal.returns-in_err-init
 returns-in_err-init c = passed _ _ _ c.in_err-init.field-0.0 c.from_residual-in_err-init.result c.from_residual-in_err-init.ensures.1 c.in_err-init.ensures (λ left none. made_missing variable_made (past_name c.in_ok-name.ensures (past c.in_ok-rest.ensures (later range_definite c.in_ok-range.ensures none))))
 
 pub returns : goal.returns
-returns c = 
+returns c =
     let rest = after_token k.Colon variable_rest_definite in
     made_found variable_made
     (both_found (both_closed name_definite rest) c.in_ok-name.ensures (both_found rest c.in_ok-rest.ensures (both_found variable_rest_definite c.in_ok-range.ensures c.in_ok-init.ensures)))

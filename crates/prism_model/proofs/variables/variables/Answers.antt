@@ -12,7 +12,7 @@ pub loop-alloc-smaller : goal.loop-alloc-smaller
 loop-alloc-smaller c = shorter variable_starts c.in_ok-next.ensures
 
 pub loop-alloc-preserved : goal.loop-alloc-preserved
-loop-alloc-preserved c = 
+loop-alloc-preserved c =
     let pushed : c.push.new.self ≡ c.loop-alloc.variables ++ (c.in_ok-next.next ∷ []) = c.in_ok-push.ensures.ok in
     rw pushed (each_onward variables_repeat c.loop-alloc-test.ensures c.loop-alloc.invariant c.in_ok-next.ensures)
 
