@@ -1,191 +1,253 @@
--- An item of a model, by its first token.
-use Rattle.std.proofs.Common.{◌≡◌, ◌<◌, List, [], ◌∷◌, ◌++◌, length, true, refl, sym, ◌∙◌, ap, arith}
+-- The items of a model: each begins with a word of its own.
+use Rattle.std.proofs.Common.{◌≡◌, ℕ, ◌≤◌, ◌<◌, List, [], ◌∷◌, ◌++◌, length, refl, sym, ◌∙◌, ap, subst, arith}
+use Rattle.std.proofs.lemmas.List.{length-map}
 use Rattle.prism_syntax.specs.declared.tokens.Kind.{Kind}
 use Rattle.prism_syntax.specs.declared.tokens.Kind.TheVariants as k
 use Rattle.prism_syntax.specs.declared.tokens.Token.{Token}
 use Rattle.prism_syntax.specs.declared.models.ConstText.{ConstText}
-use Rattle.prism_syntax.specs.declared.models.Named.{Named}
 use Rattle.prism_syntax.specs.declared.models.Variable.{Variable}
+use Rattle.prism_syntax.specs.declared.models.Named.{Named}
 use Rattle.prism_syntax.specs.declared.models.Module.{Module}
+use Rattle.prism_syntax.specs.declared.models.Item.{Item}
+use Rattle.prism_syntax.specs.declared.models.Item.TheVariants as item
 use Rattle.prism_syntax.specs.Tokens.{kinds}
-use Rattle.prism_syntax.specs.Models.{IsConst, IsFormula, IsLabel, IsVariable, IsModule}
+use Rattle.prism_syntax.specs.Models.{IsConst, IsGlobal, IsFormula, IsModule, IsLabel, IsItem, Each}
 use Rattle.prism_syntax.specs.Models as model
-use Rattle.prism_pieces.specs.Answers.{ReadsNoOne}
-use Rattle.prism_model.specs.declared.items.Item.{Item}
-use Rattle.prism_model.specs.declared.items.Item.TheVariants as item
-use Rattle.prism_model.specs.Pieces.{IsJust, Both, both}
-use Rattle.prism_model.specs.Runs.{is_some}
-use Rattle.prism_model.specs.Items.{IsItem, IsPassed}
-use Rattle.prism_model.specs.Items as one
-use Rattle.prism_model.proofs.SequenceLemmas.{Stands}
+use Rattle.prism_reading.specs.Reach.{IsPrefix, IsReach}
+use Rattle.prism_reading.specs.Reading.{Anything, Parses, Fails}
+use Rattle.prism_reading.proofs.DefiniteLemmas.{IsDefinite, HasText, Starts, nothing_begins, closed, found, misses, reach_within}
+use Rattle.prism_reading.proofs.EachLemmas.{Repeats}
+use Rattle.prism_model.specs.Parts.{IsPassed, IsEnd}
+use Rattle.prism_model.proofs.DefiniteLineLemmas.{const_definite, const_starts, const_has, global_definite, global_starts, formula_definite, formula_starts, label_definite, label_starts, rewards_definite, rewards_starts}
+use Rattle.prism_model.proofs.ModuleLemmas.{module_definite, module_starts}
 
--- the first token of an item
-abbrev pub lead : Item → Kind
-lead (item.Const c) = k.Const
-lead (item.Global v) = k.Global
-lead (item.Formula f) = k.Formula
-lead (item.Module d) = k.Module
-lead (item.Label f) = k.Label
-lead item.Rewards = k.Rewards
+-- an item by its first token
+pub data ItemBy (t : Kind) (a : List Kind) : Item → Type 0 where
+  const : {c : ConstText} → t ≡ k.Const → IsConst (t ∷ a) c → ItemBy t a (item.Const c)
+  global : {v : Variable} → t ≡ k.Global → IsGlobal (t ∷ a) v → ItemBy t a (item.Global v)
+  formula : {f : Named} → t ≡ k.Formula → IsFormula (t ∷ a) f → ItemBy t a (item.Formula f)
+  «module» : {m : Module} → t ≡ k.Module → IsModule (t ∷ a) m → ItemBy t a (item.Module m)
+  label : {f : Named} → t ≡ k.Label → IsLabel (t ∷ a) f → ItemBy t a (item.Label f)
+  rewards : t ≡ k.Rewards → IsPassed (t ∷ a) tt → ItemBy t a item.Rewards
 
--- an item begins with its first token
-pub item_lead : (a : List Kind) (x : Item) → IsItem a x → (rest : List Kind) × (a ≡ lead x ∷ rest)
-item_lead _ _ (one.const (model.const sort value)) = (_, refl)
-item_lead _ _ (one.global text) = (_, refl)
-item_lead _ _ (one.formula (model.formula body)) = (_, refl)
-item_lead _ _ (one.module (model.written vars commands)) = (_, refl)
-item_lead _ _ (one.module (model.renamed pairs)) = (_, refl)
-item_lead _ _ (one.label (model.label body)) = (_, refl)
-item_lead _ _ (one.rewards (model.rewards a others)) = (_, refl)
+item_by : (t : Kind) (a : List Kind) (z : Item) → IsItem (t ∷ a) z → ItemBy t a z
+item_by t a _ (model.IsItem.const {c} text) = ItemBy.const (const_starts.first t a c text) text
+item_by t a _ (model.IsItem.global {v} text) = ItemBy.global (global_starts.first t a v text) text
+item_by t a _ (model.IsItem.formula {f} text) = ItemBy.formula (formula_starts.first t a f text) text
+item_by t a _ (model.IsItem.«module» {m} text) = ItemBy.«module» (module_starts.first t a m text) text
+item_by t a _ (model.IsItem.label {f} text) = ItemBy.label (label_starts.first t a f text) text
+item_by t a _ (model.IsItem.rewards text) = ItemBy.rewards (rewards_starts.first t a tt text) text
 
-pub item_starts : (a b : List Kind) (x : Item) → IsItem a x → is_some (a ++ b) ≡ true
-item_starts a b x text = let leads = item_lead a x text in rw leads.1 refl
+item_some : (z : Item) → IsItem [] z → ⊥
+item_some _ (model.IsItem.const {c} text) = const_starts.some c text
+item_some _ (model.IsItem.global {v} text) = global_starts.some v text
+item_some _ (model.IsItem.formula {f} text) = formula_starts.some f text
+item_some _ (model.IsItem.«module» {m} text) = module_starts.some m text
+item_some _ (model.IsItem.label {f} text) = label_starts.some f text
+item_some _ (model.IsItem.rewards text) = rewards_starts.some tt text
 
--- an item of tokens that begin with a kind has that kind for its first token
-leads_with : (ts rest a after : List Kind) (kind : Kind) (x : Item) → ts ≡ kind ∷ rest → ts ≡ a ++ after → IsItem a x → lead x ≡ kind
-leads_with ts rest a after kind x begins cut text =
-    let leads = item_lead a x text in
-    let heads : lead x ∷ (leads.0 ++ after) ≡ kind ∷ rest = sym (cut ∙ ap (λ l. l ++ after) leads.1) ∙ begins in
-    cc
+-- at tokens with this first one the items are the texts of the rule
+pub record ItemsBy {P : Type 0} (first : Kind) (Rule : List Kind → P → Type 0) (make : P → Item) : Type 0 where
+  pub definite : IsDefinite Rule Anything
+  pub starts : Starts Rule (λ t. t ≡ first)
+  pub to : (a : List Kind) (p : P) → Rule a p → IsItem a (make p)
+  pub back : (a : List Kind) (z : Item) → IsItem (first ∷ a) z → (p : P) × Rule (first ∷ a) p × (z ≡ make p)
 
--- each kind of item, where its first token stands
-const_item : (a : List Kind) (x : Item) → lead x ≡ k.Const → IsItem a x → (c : ConstText) × IsConst a c × (x ≡ item.Const c)
-const_item _ _ same (one.const {c} text) = (c, text, refl)
-const_item _ _ same (one.global text) = absurd (cc)
-const_item _ _ same (one.formula text) = absurd (cc)
-const_item _ _ same (one.module text) = absurd (cc)
-const_item _ _ same (one.label text) = absurd (cc)
-const_item _ _ same (one.rewards text) = absurd (cc)
+const_back : (t : Kind) (a : List Kind) (z : Item) → t ≡ k.Const → ItemBy t a z → (p : ConstText) × IsConst (k.Const ∷ a) p × (z ≡ item.Const p)
+const_back t a _ is (ItemBy.const {c} same text) = (c, subst (λ u. IsConst (u ∷ a) c) is text, refl)
+const_back t a _ is (ItemBy.global same text) = let never : k.Const ≡ k.Global = sym is ∙ same in absurd (cc)
+const_back t a _ is (ItemBy.formula same text) = let never : k.Const ≡ k.Formula = sym is ∙ same in absurd (cc)
+const_back t a _ is (ItemBy.«module» same text) = let never : k.Const ≡ k.Module = sym is ∙ same in absurd (cc)
+const_back t a _ is (ItemBy.label same text) = let never : k.Const ≡ k.Label = sym is ∙ same in absurd (cc)
+const_back t a _ is (ItemBy.rewards same text) = let never : k.Const ≡ k.Rewards = sym is ∙ same in absurd (cc)
 
-abbrev pub const_made : ConstText → Item
-const_made c = item.Const c
-
-pub const_item_stands : (ts rest : List Kind) → ts ≡ k.Const ∷ rest → Stands IsConst const_made IsItem ts
-const_item_stands ts rest begins = record {
-  to = λ a after p cut text. one.const text;
-  back = λ a after z cut text. const_item a z (leads_with ts rest a after k.Const z begins cut text) text;
+pub const_items : ItemsBy k.Const IsConst (λ p. item.Const p)
+const_items = record {
+  definite = const_definite;
+  starts = const_starts;
+  to = λ a p text. model.IsItem.const text;
+  back = λ a z text. const_back k.Const a z refl (item_by k.Const a z text);
 }
 
-abbrev pub GlobalParts : List Kind → Unit {0} × Variable → Type 0
-GlobalParts = Both (IsJust k.Global) IsVariable
+global_back : (t : Kind) (a : List Kind) (z : Item) → t ≡ k.Global → ItemBy t a z → (p : Variable) × IsGlobal (k.Global ∷ a) p × (z ≡ item.Global p)
+global_back t a _ is (ItemBy.const same text) = let never : k.Global ≡ k.Const = sym is ∙ same in absurd (cc)
+global_back t a _ is (ItemBy.global {v} same text) = (v, subst (λ u. IsGlobal (u ∷ a) v) is text, refl)
+global_back t a _ is (ItemBy.formula same text) = let never : k.Global ≡ k.Formula = sym is ∙ same in absurd (cc)
+global_back t a _ is (ItemBy.«module» same text) = let never : k.Global ≡ k.Module = sym is ∙ same in absurd (cc)
+global_back t a _ is (ItemBy.label same text) = let never : k.Global ≡ k.Label = sym is ∙ same in absurd (cc)
+global_back t a _ is (ItemBy.rewards same text) = let never : k.Global ≡ k.Rewards = sym is ∙ same in absurd (cc)
 
-abbrev pub global_made : Unit {0} × Variable → Item
-global_made p = item.Global p.1
-
-global_to : (a : List Kind) (p : Unit {0} × Variable) → GlobalParts a p → IsItem a (global_made p)
-global_to _ _ (both {b} {y} first text) =
-    let whole : IsItem (k.Global ∷ b) (item.Global y) = one.global text in
-    rw first whole
-
-global_item : (a : List Kind) (x : Item) → lead x ≡ k.Global → IsItem a x → (p : Unit {0} × Variable) × GlobalParts a p × (x ≡ global_made p)
-global_item _ _ same (one.const text) = absurd (cc)
-global_item _ _ same (one.global {v} text) =
-    let first : IsJust k.Global (k.Global ∷ []) tt = refl in
-    ((tt, v), both first text, refl)
-global_item _ _ same (one.formula text) = absurd (cc)
-global_item _ _ same (one.module text) = absurd (cc)
-global_item _ _ same (one.label text) = absurd (cc)
-global_item _ _ same (one.rewards text) = absurd (cc)
-
-pub global_item_stands : (ts rest : List Kind) → ts ≡ k.Global ∷ rest → Stands GlobalParts global_made IsItem ts
-global_item_stands ts rest begins = record {
-  to = λ a after p cut text. global_to a p text;
-  back = λ a after z cut text. global_item a z (leads_with ts rest a after k.Global z begins cut text) text;
+pub global_items : ItemsBy k.Global IsGlobal (λ p. item.Global p)
+global_items = record {
+  definite = global_definite;
+  starts = global_starts;
+  to = λ a p text. model.IsItem.global text;
+  back = λ a z text. global_back k.Global a z refl (item_by k.Global a z text);
 }
 
-formula_item : (a : List Kind) (x : Item) → lead x ≡ k.Formula → IsItem a x → (f : Named) × IsFormula a f × (x ≡ item.Formula f)
-formula_item _ _ same (one.const text) = absurd (cc)
-formula_item _ _ same (one.global text) = absurd (cc)
-formula_item _ _ same (one.formula {f} text) = (f, text, refl)
-formula_item _ _ same (one.module text) = absurd (cc)
-formula_item _ _ same (one.label text) = absurd (cc)
-formula_item _ _ same (one.rewards text) = absurd (cc)
+formula_back : (t : Kind) (a : List Kind) (z : Item) → t ≡ k.Formula → ItemBy t a z → (p : Named) × IsFormula (k.Formula ∷ a) p × (z ≡ item.Formula p)
+formula_back t a _ is (ItemBy.const same text) = let never : k.Formula ≡ k.Const = sym is ∙ same in absurd (cc)
+formula_back t a _ is (ItemBy.global same text) = let never : k.Formula ≡ k.Global = sym is ∙ same in absurd (cc)
+formula_back t a _ is (ItemBy.formula {f} same text) = (f, subst (λ u. IsFormula (u ∷ a) f) is text, refl)
+formula_back t a _ is (ItemBy.«module» same text) = let never : k.Formula ≡ k.Module = sym is ∙ same in absurd (cc)
+formula_back t a _ is (ItemBy.label same text) = let never : k.Formula ≡ k.Label = sym is ∙ same in absurd (cc)
+formula_back t a _ is (ItemBy.rewards same text) = let never : k.Formula ≡ k.Rewards = sym is ∙ same in absurd (cc)
 
-abbrev pub formula_made : Named → Item
-formula_made f = item.Formula f
-
-pub formula_item_stands : (ts rest : List Kind) → ts ≡ k.Formula ∷ rest → Stands IsFormula formula_made IsItem ts
-formula_item_stands ts rest begins = record {
-  to = λ a after p cut text. one.formula text;
-  back = λ a after z cut text. formula_item a z (leads_with ts rest a after k.Formula z begins cut text) text;
+pub formula_items : ItemsBy k.Formula IsFormula (λ p. item.Formula p)
+formula_items = record {
+  definite = formula_definite;
+  starts = formula_starts;
+  to = λ a p text. model.IsItem.formula text;
+  back = λ a z text. formula_back k.Formula a z refl (item_by k.Formula a z text);
 }
 
-module_item : (a : List Kind) (x : Item) → lead x ≡ k.Module → IsItem a x → (d : Module) × IsModule a d × (x ≡ item.Module d)
-module_item _ _ same (one.const text) = absurd (cc)
-module_item _ _ same (one.global text) = absurd (cc)
-module_item _ _ same (one.formula text) = absurd (cc)
-module_item _ _ same (one.module {d} text) = (d, text, refl)
-module_item _ _ same (one.label text) = absurd (cc)
-module_item _ _ same (one.rewards text) = absurd (cc)
+module_back : (t : Kind) (a : List Kind) (z : Item) → t ≡ k.Module → ItemBy t a z → (p : Module) × IsModule (k.Module ∷ a) p × (z ≡ item.Module p)
+module_back t a _ is (ItemBy.const same text) = let never : k.Module ≡ k.Const = sym is ∙ same in absurd (cc)
+module_back t a _ is (ItemBy.global same text) = let never : k.Module ≡ k.Global = sym is ∙ same in absurd (cc)
+module_back t a _ is (ItemBy.formula same text) = let never : k.Module ≡ k.Formula = sym is ∙ same in absurd (cc)
+module_back t a _ is (ItemBy.«module» {m} same text) = (m, subst (λ u. IsModule (u ∷ a) m) is text, refl)
+module_back t a _ is (ItemBy.label same text) = let never : k.Module ≡ k.Label = sym is ∙ same in absurd (cc)
+module_back t a _ is (ItemBy.rewards same text) = let never : k.Module ≡ k.Rewards = sym is ∙ same in absurd (cc)
 
-abbrev pub module_made : Module → Item
-module_made d = item.Module d
-
-pub module_item_stands : (ts rest : List Kind) → ts ≡ k.Module ∷ rest → Stands IsModule module_made IsItem ts
-module_item_stands ts rest begins = record {
-  to = λ a after p cut text. one.module text;
-  back = λ a after z cut text. module_item a z (leads_with ts rest a after k.Module z begins cut text) text;
+pub module_items : ItemsBy k.Module IsModule (λ p. item.Module p)
+module_items = record {
+  definite = module_definite;
+  starts = module_starts;
+  to = λ a p text. model.IsItem.«module» text;
+  back = λ a z text. module_back k.Module a z refl (item_by k.Module a z text);
 }
 
-label_item : (a : List Kind) (x : Item) → lead x ≡ k.Label → IsItem a x → (f : Named) × IsLabel a f × (x ≡ item.Label f)
-label_item _ _ same (one.const text) = absurd (cc)
-label_item _ _ same (one.global text) = absurd (cc)
-label_item _ _ same (one.formula text) = absurd (cc)
-label_item _ _ same (one.module text) = absurd (cc)
-label_item _ _ same (one.label {f} text) = (f, text, refl)
-label_item _ _ same (one.rewards text) = absurd (cc)
+label_back : (t : Kind) (a : List Kind) (z : Item) → t ≡ k.Label → ItemBy t a z → (p : Named) × IsLabel (k.Label ∷ a) p × (z ≡ item.Label p)
+label_back t a _ is (ItemBy.const same text) = let never : k.Label ≡ k.Const = sym is ∙ same in absurd (cc)
+label_back t a _ is (ItemBy.global same text) = let never : k.Label ≡ k.Global = sym is ∙ same in absurd (cc)
+label_back t a _ is (ItemBy.formula same text) = let never : k.Label ≡ k.Formula = sym is ∙ same in absurd (cc)
+label_back t a _ is (ItemBy.«module» same text) = let never : k.Label ≡ k.Module = sym is ∙ same in absurd (cc)
+label_back t a _ is (ItemBy.label {f} same text) = (f, subst (λ u. IsLabel (u ∷ a) f) is text, refl)
+label_back t a _ is (ItemBy.rewards same text) = let never : k.Label ≡ k.Rewards = sym is ∙ same in absurd (cc)
 
-abbrev pub label_made : Named → Item
-label_made f = item.Label f
-
-pub label_item_stands : (ts rest : List Kind) → ts ≡ k.Label ∷ rest → Stands IsLabel label_made IsItem ts
-label_item_stands ts rest begins = record {
-  to = λ a after p cut text. one.label text;
-  back = λ a after z cut text. label_item a z (leads_with ts rest a after k.Label z begins cut text) text;
+pub label_items : ItemsBy k.Label IsLabel (λ p. item.Label p)
+label_items = record {
+  definite = label_definite;
+  starts = label_starts;
+  to = λ a p text. model.IsItem.label text;
+  back = λ a z text. label_back k.Label a z refl (item_by k.Label a z text);
 }
 
-rewards_item : (a : List Kind) (x : Item) → lead x ≡ k.Rewards → IsItem a x → (p : Unit {0}) × IsPassed a p × (x ≡ item.Rewards)
-rewards_item _ _ same (one.const text) = absurd (cc)
-rewards_item _ _ same (one.global text) = absurd (cc)
-rewards_item _ _ same (one.formula text) = absurd (cc)
-rewards_item _ _ same (one.module text) = absurd (cc)
-rewards_item _ _ same (one.label text) = absurd (cc)
-rewards_item _ _ same (one.rewards text) = (tt, text, refl)
+rewards_back : (t : Kind) (a : List Kind) (z : Item) → t ≡ k.Rewards → ItemBy t a z → (p : Unit {0}) × IsPassed (k.Rewards ∷ a) p × (z ≡ item.Rewards)
+rewards_back t a _ is (ItemBy.const same text) = let never : k.Rewards ≡ k.Const = sym is ∙ same in absurd (cc)
+rewards_back t a _ is (ItemBy.global same text) = let never : k.Rewards ≡ k.Global = sym is ∙ same in absurd (cc)
+rewards_back t a _ is (ItemBy.formula same text) = let never : k.Rewards ≡ k.Formula = sym is ∙ same in absurd (cc)
+rewards_back t a _ is (ItemBy.«module» same text) = let never : k.Rewards ≡ k.Module = sym is ∙ same in absurd (cc)
+rewards_back t a _ is (ItemBy.label same text) = let never : k.Rewards ≡ k.Label = sym is ∙ same in absurd (cc)
+rewards_back t a _ is (ItemBy.rewards same text) = (tt, subst (λ u. IsPassed (u ∷ a) tt) is text, refl)
 
-abbrev pub rewards_made : Unit {0} → Item
-rewards_made p = item.Rewards
-
-pub rewards_item_stands : (ts rest : List Kind) → ts ≡ k.Rewards ∷ rest → Stands IsPassed rewards_made IsItem ts
-rewards_item_stands ts rest begins = record {
-  to = λ a after p cut text. one.rewards text;
-  back = λ a after z cut text. rewards_item a z (leads_with ts rest a after k.Rewards z begins cut text) text;
+pub rewards_items : ItemsBy k.Rewards IsPassed (λ p. item.Rewards)
+rewards_items = record {
+  definite = rewards_definite;
+  starts = rewards_starts;
+  to = λ a p text. model.IsItem.rewards text;
+  back = λ a z text. rewards_back k.Rewards a z refl (item_by k.Rewards a z text);
 }
 
--- no item begins with another token, nor at the end
-no_lead : (x : Item) (kind : Kind) → lead x ≡ kind
-    → (kind ≡ k.Const → ⊥) → (kind ≡ k.Global → ⊥) → (kind ≡ k.Formula → ⊥) → (kind ≡ k.Module → ⊥) → (kind ≡ k.Label → ⊥) → (kind ≡ k.Rewards → ⊥) → ⊥
-no_lead (item.Const c) kind same no_const no_global no_formula no_module no_label no_rewards = no_const (sym same)
-no_lead (item.Global v) kind same no_const no_global no_formula no_module no_label no_rewards = no_global (sym same)
-no_lead (item.Formula f) kind same no_const no_global no_formula no_module no_label no_rewards = no_formula (sym same)
-no_lead (item.Module d) kind same no_const no_global no_formula no_module no_label no_rewards = no_module (sym same)
-no_lead (item.Label f) kind same no_const no_global no_formula no_module no_label no_rewards = no_label (sym same)
-no_lead item.Rewards kind same no_const no_global no_formula no_module no_label no_rewards = no_rewards (sym same)
+-- two items at the front of one list
+by_first : {P : Type 0} {first : Kind} {Rule : List Kind → P → Type 0} {make : P → Item} (a b r s : List Kind) (x y : Item)
+    → ItemsBy first Rule make → IsItem (first ∷ a) x → IsItem (first ∷ b) y → (first ∷ a) ++ r ≡ (first ∷ b) ++ s → (r ≡ s) × (x ≡ y)
+by_first {first} {make} a b r s x y items one two equal =
+    let f = items.back a x one in
+    let g = items.back b y two in
+    let same = items.definite.agrees (first ∷ a) (first ∷ b) r s f.0 g.0 f.1 g.1 tt tt equal in
+    (same.0, f.2 ∙ ap make same.1 ∙ sym g.2)
 
-pub no_item : (ts rest : List Token) (first : Token) → ts ≡ first ∷ rest
-    → (first.kind ≡ k.Const → ⊥) → (first.kind ≡ k.Global → ⊥) → (first.kind ≡ k.Formula → ⊥) → (first.kind ≡ k.Module → ⊥) → (first.kind ≡ k.Label → ⊥) → (first.kind ≡ k.Rewards → ⊥)
-    → ReadsNoOne IsItem ts (length ts)
-no_item ts rest first cut no_const no_global no_formula no_module no_label no_rewards = record {
-  none = λ a after x where_ text.
-      no_lead x first.kind (leads_with (kinds ts) (kinds rest) a after first.kind x (ap kinds cut) where_ text) no_const no_global no_formula no_module no_label no_rewards;
-  within = omega arith;
+with_first : (t : Kind) (a b r s : List Kind) (x y : Item) → IsItem (t ∷ a) x → IsItem (t ∷ b) y → ItemBy t a x → (t ∷ a) ++ r ≡ (t ∷ b) ++ s → (r ≡ s) × (x ≡ y)
+with_first t a b r s x y one two (ItemBy.const is text) equal = subst (λ u. IsItem (u ∷ a) x → IsItem (u ∷ b) y → (u ∷ a) ++ r ≡ (u ∷ b) ++ s → (r ≡ s) × (x ≡ y)) (sym is) (by_first a b r s x y const_items) one two equal
+with_first t a b r s x y one two (ItemBy.global is text) equal = subst (λ u. IsItem (u ∷ a) x → IsItem (u ∷ b) y → (u ∷ a) ++ r ≡ (u ∷ b) ++ s → (r ≡ s) × (x ≡ y)) (sym is) (by_first a b r s x y global_items) one two equal
+with_first t a b r s x y one two (ItemBy.formula is text) equal = subst (λ u. IsItem (u ∷ a) x → IsItem (u ∷ b) y → (u ∷ a) ++ r ≡ (u ∷ b) ++ s → (r ≡ s) × (x ≡ y)) (sym is) (by_first a b r s x y formula_items) one two equal
+with_first t a b r s x y one two (ItemBy.«module» is text) equal = subst (λ u. IsItem (u ∷ a) x → IsItem (u ∷ b) y → (u ∷ a) ++ r ≡ (u ∷ b) ++ s → (r ≡ s) × (x ≡ y)) (sym is) (by_first a b r s x y module_items) one two equal
+with_first t a b r s x y one two (ItemBy.label is text) equal = subst (λ u. IsItem (u ∷ a) x → IsItem (u ∷ b) y → (u ∷ a) ++ r ≡ (u ∷ b) ++ s → (r ≡ s) × (x ≡ y)) (sym is) (by_first a b r s x y label_items) one two equal
+with_first t a b r s x y one two (ItemBy.rewards is text) equal = subst (λ u. IsItem (u ∷ a) x → IsItem (u ∷ b) y → (u ∷ a) ++ r ≡ (u ∷ b) ++ s → (r ≡ s) × (x ≡ y)) (sym is) (by_first a b r s x y rewards_items) one two equal
+
+items_agree : (a b r s : List Kind) (x y : Item) → IsItem a x → IsItem b y → a ++ r ≡ b ++ s → (r ≡ s) × (x ≡ y)
+items_agree [] b r s x y one two equal = absurd (item_some x one)
+items_agree (t ∷ a) [] r s x y one two equal = absurd (item_some y two)
+items_agree (t ∷ a) (u ∷ b) r s x y one two equal =
+    let same : u ≡ t = cc in
+    let other : IsItem (t ∷ b) y = subst (λ v. IsItem (v ∷ b) y) same two in
+    let whole : (t ∷ a) ++ r ≡ (t ∷ b) ++ s = equal ∙ ap (λ v. v ∷ (b ++ s)) same in
+    with_first t a b r s x y one other (item_by t a x one) whole
+
+pub item_definite : IsDefinite IsItem Anything
+item_definite = closed (λ a b r s x y one two _ _ equal. items_agree a b r s x y one two equal)
+
+pub item_has : HasText IsItem
+item_has = record { tokens = const_has.tokens; tree = item.Const const_has.tree; text = model.IsItem.const const_has.text }
+
+-- a token begins each
+pub item_starts : Starts IsItem (λ t. Unit {0})
+item_starts = record { some = λ z text. item_some z text; first = λ t a z text. tt }
+
+pub items_repeat : Repeats IsItem Anything (λ t. Unit {0}) IsEnd
+items_repeat = record { one = item_definite; starts = item_starts; next = λ t l is. tt; last = λ r follows. tt; stop = λ t l follows is. cc }
+
+-- what is found of the rule is found of the item
+pub item_found : {P : Type 0} {first : Kind} {Rule : List Kind → P → Type 0} {make : P → Item} {ts rest : List Token} {p : P} {m : ℕ}
+    → ItemsBy first Rule make → Parses Rule Anything ts p rest m → Parses IsItem Anything ts (make p) rest (length rest)
+item_found {make} {ts} {rest} {p} items one = found ts one.prefix rest (make p) item_definite one.cut (items.to (kinds one.prefix) p one.text) tt
+
+no_item : {P : Type 0} {first : Kind} {Rule : List Kind → P → Type 0} {make : P → Item} (ts a after l : List Kind) (z : Item)
+    → ItemsBy first Rule make → ((p q : List Kind) (x : P) → ts ≡ p ++ q → Rule p x → Anything q → ⊥) → ts ≡ first ∷ l → ts ≡ a ++ after → IsItem a z → ⊥
+no_item ts [] after l z items none begins cut text = item_some z text
+no_item {first} ts (t ∷ a) after l z items none begins cut text =
+    let same : t ≡ first = cc in
+    let other = items.back a z (subst (λ u. IsItem (u ∷ a) z) same text) in
+    none (first ∷ a) after other.0 (cut ∙ ap (λ u. u ∷ (a ++ after)) same) other.1 tt
+
+item_furthest : {P : Type 0} {first : Kind} {Rule : List Kind → P → Type 0} {make : P → Item} (ts a after l : List Kind) (left : ℕ)
+    → ItemsBy first Rule make → IsReach (IsPrefix Rule) ts left → ts ≡ first ∷ l → ts ≡ a ++ after → IsPrefix IsItem a → left ≤ length after
+item_furthest ts [] after l left items reach begins cut prefix = omega (arith, reach_within reach, ap length cut)
+item_furthest {first} {Rule} ts (t ∷ a) after l left items reach begins cut prefix =
+    let same : t ≡ first = cc in
+    let other = items.back (a ++ prefix.more) prefix.tree (subst (λ u. IsItem (u ∷ (a ++ prefix.more)) prefix.tree) same prefix.text) in
+    reach.furthest (first ∷ a) after (cut ∙ ap (λ u. u ∷ (a ++ after)) same) (record { more = prefix.more; tree = other.0; text = other.1 })
+
+-- what is missing of the rule, where its word begins the tokens, is missing of the item
+pub item_missing : {P : Type 0} {first : Kind} {Rule : List Kind → P → Type 0} {make : P → Item} (ts : List Token) (l : List Kind) (left : ℕ)
+    → ItemsBy first Rule make → kinds ts ≡ first ∷ l → Fails Rule Anything ts left → Fails IsItem Anything ts left
+item_missing {make} ts l left items begins fails = record {
+  none = λ a after z cut text follows. no_item (kinds ts) a after l z items fails.none begins cut text;
+  reach = record {
+    prefix = fails.reach.prefix;
+    rest = fails.reach.rest;
+    cut = fails.reach.cut;
+    count = fails.reach.count;
+    begins = record { more = fails.reach.begins.more; tree = make fails.reach.begins.tree; text = items.to (fails.reach.prefix ++ fails.reach.begins.more) fails.reach.begins.tree fails.reach.begins.text };
+    furthest = λ a after cut prefix. item_furthest (kinds ts) a after l left items fails.reach begins cut prefix;
+  };
 }
 
-pub no_item_at_end : (ts : List Token) → length ts < 1 → ReadsNoOne IsItem ts 0
-no_item_at_end [] empty = record {
-  none = λ a after x cut text.
-      let leads = item_lead a x text in
-      let heads : [] ≡ lead x ∷ (leads.0 ++ after) = cut ∙ ap (λ l. l ++ after) leads.1 in
-      cc;
-  within = omega arith;
-}
-no_item_at_end (t ∷ ts) empty = absurd (omega arith)
+other_word : (t : Kind) (a : List Kind) (z : Item) → ItemBy t a z → (t ≡ k.Const → ⊥) → (t ≡ k.Global → ⊥) → (t ≡ k.Formula → ⊥) → (t ≡ k.Module → ⊥) → (t ≡ k.Label → ⊥) → (t ≡ k.Rewards → ⊥) → ⊥
+other_word t a _ (ItemBy.const is text) w v u s r q = w is
+other_word t a _ (ItemBy.global is text) w v u s r q = v is
+other_word t a _ (ItemBy.formula is text) w v u s r q = u is
+other_word t a _ (ItemBy.«module» is text) w v u s r q = s is
+other_word t a _ (ItemBy.label is text) w v u s r q = r is
+other_word t a _ (ItemBy.rewards is text) w v u s r q = q is
+
+-- another word begins no item
+abbrev pub BeginsItem : Kind → Type 0
+BeginsItem t = (a : List Kind) × (z : Item) × ItemBy t a z
+
+words_start : Starts IsItem BeginsItem
+words_start = record { some = λ z text. item_some z text; first = λ t a z text. (a, z, item_by t a z text) }
+
+pub no_word : (ts rest : List Token) (first : Token) → ts ≡ first ∷ rest → (first.kind ≡ k.Const → ⊥) → (first.kind ≡ k.Global → ⊥) → (first.kind ≡ k.Formula → ⊥)
+    → (first.kind ≡ k.Module → ⊥) → (first.kind ≡ k.Label → ⊥) → (first.kind ≡ k.Rewards → ⊥) → Fails IsItem Anything ts (length ts)
+no_word ts rest first cut w v u s r q =
+    misses ts words_start item_has (λ t l equal by.
+    let whole : kinds ts ≡ first.kind ∷ kinds rest = ap kinds cut in
+    let same : t ≡ first.kind = cc in
+    let by_first : BeginsItem first.kind = subst BeginsItem same by in
+    other_word first.kind by_first.0 by_first.1 by_first.2 w v u s r q)
+
+pub no_item_at_end : (ts : List Token) → length ts < 1 → Fails IsItem Anything ts 0
+no_item_at_end [] short = misses [] words_start item_has (λ t l equal by. cc)
+no_item_at_end (t ∷ ts) short = absurd (omega arith)

@@ -1,18 +1,15 @@
-mod AnswerLemmas
-mod SequenceLemmas
-mod PieceLemmas
-mod LineLemmas
-mod SortLemmas
-mod RunLemmas
-mod StartLemmas
-mod FollowLemmas
-mod ModuleLemmas
-mod RewardsLemmas
-mod ItemLemmas
-mod CollectLemmas
-mod ReadLemmas
-mod AgreeLemmas
-mod OneLineLemmas
-mod OneUpdateLemmas
-mod OneModuleLemmas
-pub mod OneModelLemmas
+pub mod AnswerLemmas
+pub mod ForeignLemmas
+pub mod ExpressionLemmas
+pub mod LineLemmas
+pub mod RewardsLemmas
+pub mod DefiniteLineLemmas
+pub mod StepLemmas
+pub mod SortLemmas
+pub mod BranchLemmas
+pub mod TokenLemmas
+pub mod ModuleLemmas
+pub mod ItemLemmas
+pub mod UpdateLemmas
+pub mod ModelLemmas
+pub mod BeginLemmas

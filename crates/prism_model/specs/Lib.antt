@@ -1,4 +1,2 @@
-pub mod Pieces
-pub mod Runs
-pub mod Items
-pub mod Answers
+pub mod Begins
+pub mod Parts

@@ -1,37 +1,22 @@
-ghost use Rattle.std.specs.Prelude.{◌≡◌, OnOk};
-ghost use Rattle.prism_syntax.specs.Tokens.{kinds};
-ghost use Rattle.prism_syntax.specs.Models.{AreItems};
-ghost use Rattle.prism_expression.specs.Answers.{Gives};
-ghost use Rattle.prism_pieces.specs.Answers.{ReadsOne, ReadsNoOne};
-ghost use Rattle.prism_model.specs.Items.{IsItem, with_item, ReadsNoItems};
+ghost use Rattle.std.specs.Prelude.{◌≡◌, List, OnOk, length};
+ghost use Rattle.prism_syntax.specs.declared.models.Item.{Item};
+ghost use Rattle.prism_syntax.specs.Models.{Each, IsItem};
+ghost use Rattle.prism_reading.specs.Reading.{Answers, Anything, Parses, Fails};
+ghost use Rattle.prism_model.specs.Parts.{AreItems, IsEnd, with_last};
 
-use crate::consts::constant;
+use crate::constants::constant;
+use crate::formulas::{formula, label};
 use crate::modules::module;
-use crate::named::{formula, label};
-use crate::pieces::expect;
 use crate::rewards::rewards;
-use crate::variables::variable;
-use prism_expression::Unread;
-use prism_pieces::Mark;
-use prism_syntax::{ConstText, Kind, ModelText, Module, Named, Token, Variable};
+use crate::variables::global;
+use prism_reading::Mismatch;
+use prism_syntax::{Item, Kind, ModelText, Token};
 use sqlite_items::Items;
 use std::alloc::{AllocError, Global};
 
-/// An item of a model.
-#[derive(Debug, Drop)]
-pub enum Item {
-    Const(ConstText),
-    Global(Variable),
-    Formula(Named),
-    Module(Module),
-    Label(Named),
-    /// A rewards block, which is passed over.
-    Rewards,
-}
-
-/// The items that the tokens are, each kind in text order.
-pub fn items(alloc: Global, tokens: &[Token]) -> Result<ModelText, Unread>
-    ensures { Gives (λ model. AreItems (kinds tokens.now) model) (ReadsNoItems tokens.now) result }
+/// The model of the items that the tokens are.
+pub fn items(alloc: Global, tokens: &[Token]) -> Result<ModelText, Mismatch>
+    ensures { Answers (AreItems tokens.now) (Fails (Each IsItem) IsEnd tokens.now) result }
 {
     let mut model = ModelText {
         consts: Items::new(alloc),
@@ -42,8 +27,8 @@ pub fn items(alloc: Global, tokens: &[Token]) -> Result<ModelText, Unread>
     };
     let mut rest = tokens;
     while !rest.is_empty() {
-        let (next, after) = next_item(alloc, rest)?;
-        add(&mut model, next).map_err(Unread::OutOfMemory)?;
+        let (next, after) = item(alloc, rest)?;
+        add(&mut model, next)?;
         rest = after;
     }
     Ok(model)
@@ -51,7 +36,7 @@ pub fn items(alloc: Global, tokens: &[Token]) -> Result<ModelText, Unread>
 
 /// Puts an item behind those of its kind.
 fn add(model: &mut ModelText, item: Item) -> Result<(), AllocError>
-    ensures { OnOk result (model.new ≡ with_item model.old item) }
+    ensures { OnOk result (model.new ≡ with_last model.old item) }
 {
     match item {
         Item::Const(constant) => model.consts.push(constant),
@@ -64,22 +49,21 @@ fn add(model: &mut ModelText, item: Item) -> Result<(), AllocError>
 }
 
 /// The item that begins the tokens, and the tokens after it.
-fn next_item<'a>(alloc: Global, tokens: &'a [Token]) -> Result<(Item, &'a [Token]), Unread>
-    ensures { Gives
-        (λ r. ReadsOne IsItem tokens.now r.0 r.1.now)
-        (ReadsNoOne IsItem tokens.now)
+fn item<'a>(alloc: Global, tokens: &'a [Token]) -> Result<(Item, &'a [Token]), Mismatch>
+    ensures { Answers
+        (λ r. Parses IsItem Anything tokens.now r.0 r.1.now (length r.1.now))
+        (Fails IsItem Anything tokens.now)
         result }
 {
     match tokens {
-        [] => Err(Unread::NoText { left: 0 }),
+        [] => Err(Mismatch::NoText { left: 0 }),
         [first, ..] => match first.kind {
             Kind::Const => {
                 let (constant, rest) = constant(alloc, tokens)?;
                 Ok((Item::Const(constant), rest))
             }
             Kind::Global => {
-                let rest = expect(tokens, Mark::Global)?;
-                let (variable, rest) = variable(alloc, rest)?;
+                let (variable, rest) = global(alloc, tokens)?;
                 Ok((Item::Global(variable), rest))
             }
             Kind::Formula => {
@@ -98,7 +82,7 @@ fn next_item<'a>(alloc: Global, tokens: &'a [Token]) -> Result<(Item, &'a [Token
                 let rest = rewards(tokens)?;
                 Ok((Item::Rewards, rest))
             }
-            _ => Err(Unread::NoText { left: tokens.len() }),
+            _ => Err(Mismatch::NoText { left: tokens.len() }),
         },
     }
 }

@@ -1,19 +1,19 @@
-//! Reads models: their items, and all but the commands of their modules.
+//! Parses models: their items, down to the assignments of a command's branch.
 #![tactic(auto)]
 
-mod consts;
+mod branches;
+mod commands;
+mod constants;
+mod formulas;
 mod items;
 mod laws;
 mod modules;
-mod named;
-mod pairs;
-mod pieces;
-mod reading;
+mod optional;
+mod parsing;
+mod renamings;
 mod rewards;
+mod updates;
 mod variables;
 
-pub use laws::one_model;
-pub use reading::read;
-
-#[cfg(test)]
-mod tests;
+pub use laws::{begins_model, one_model};
+pub use parsing::parse;

@@ -1,38 +1,35 @@
-ghost use Rattle.std.specs.Prelude.{◌≡◌};
-ghost use Rattle.prism_expression.specs.Answers.{Gives};
-ghost use Rattle.prism_pieces.specs.Answers.{ReadsOne, ReadsNoOne};
-ghost use Rattle.prism_model.specs.Items.{IsPassed, EndsRewards};
+ghost use Rattle.std.specs.Prelude.{◌≡◌, length};
+ghost use Rattle.prism_reading.specs.Reading.{Answers, Anything, Parses, Fails};
+ghost use Rattle.prism_model.specs.Parts.{EndsRewards, IsPassed};
 
-use crate::pieces::expect;
-use prism_expression::Unread;
-use prism_pieces::Mark;
-use prism_syntax::Token;
+use prism_reading::{Mismatch, expect};
+use prism_syntax::{Kind, Token};
 
 /// The tokens after the rewards block that begins the tokens.
-pub fn rewards<'a>(tokens: &'a [Token]) -> Result<&'a [Token], Unread>
-    ensures { Gives
-        (λ rest. ReadsOne IsPassed tokens.now tt rest.now)
-        (ReadsNoOne IsPassed tokens.now)
+pub fn rewards<'a>(tokens: &'a [Token]) -> Result<&'a [Token], Mismatch>
+    ensures { Answers
+        (λ rest. Parses IsPassed Anything tokens.now tt rest.now (length rest.now))
+        (Fails IsPassed Anything tokens.now)
         result }
 {
-    let rest = expect(tokens, Mark::Rewards)?;
-    let rest = past_end(rest)?;
+    let rest = expect(tokens, &Kind::Rewards)?;
+    let rest = after_rewards(rest)?;
     Ok(rest)
 }
 
 /// The tokens after the first `endrewards`.
-fn past_end<'a>(tokens: &'a [Token]) -> Result<&'a [Token], Unread>
-    ensures { Gives
-        (λ rest. ReadsOne EndsRewards tokens.now tt rest.now)
-        (ReadsNoOne EndsRewards tokens.now)
+fn after_rewards<'a>(tokens: &'a [Token]) -> Result<&'a [Token], Mismatch>
+    ensures { Answers
+        (λ rest. Parses EndsRewards Anything tokens.now tt rest.now (length rest.now))
+        (Fails EndsRewards Anything tokens.now)
         result }
 {
     let mut rest = tokens;
     while let [first, after @ ..] = rest {
-        rest = after;
-        if Mark::EndRewards.is(&first.kind) {
-            return Ok(rest);
+        match first.kind {
+            Kind::EndRewards => return Ok(after),
+            _ => rest = after,
         }
     }
-    Err(Unread::NoText { left: 0 })
+    Err(Mismatch::NoText { left: 0 })
 }

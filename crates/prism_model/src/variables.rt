@@ -1,33 +1,43 @@
-ghost use Rattle.std.specs.Prelude.{◌≡◌};
+ghost use Rattle.std.specs.Prelude.{◌≡◌, MatchBool, length};
 ghost use Rattle.prism_syntax.specs.Tokens.{kinds};
-ghost use Rattle.prism_syntax.specs.Models.{IsVariable};
-ghost use Rattle.prism_expression.specs.Answers.{Gives};
-ghost use Rattle.prism_pieces.specs.Answers.{ReadsOne, ReadsNoOne};
-ghost use Rattle.prism_model.specs.Pieces.{IsRange};
-ghost use Rattle.prism_model.specs.Runs.{ReadsRun, ReadsNoRun, begins_name};
+ghost use Rattle.prism_syntax.specs.Models.{Each, IsGlobal, IsVariable};
+ghost use Rattle.prism_reading.specs.Reading.{Answers, Anything, Parses, Fails};
+ghost use Rattle.prism_model.specs.Parts.{BeginsNoName, IsRange};
 
-use crate::pieces::{expect, name, optional};
-use prism_expression::Unread;
-use prism_pieces::{Mark, expression, past};
-use prism_syntax::{Expr, Kind, Token, Variable};
+use crate::optional::optional;
+use prism_expression::expression_until;
+use prism_reading::{Mismatch, accept, expect, name};
+use prism_syntax::{Expr, Kind, Labels, Precedence, Token, Variable};
 use sqlite_items::Items;
 use std::alloc::Global;
+
+/// The global variable that begins the tokens, and the tokens after it.
+pub fn global<'a>(alloc: Global, tokens: &'a [Token]) -> Result<(Variable, &'a [Token]), Mismatch>
+    ensures { Answers
+        (λ r. Parses IsGlobal Anything tokens.now r.0 r.1.now (length r.1.now))
+        (Fails IsGlobal Anything tokens.now)
+        result }
+{
+    let rest = expect(tokens, &Kind::Global)?;
+    let (variable, rest) = variable(alloc, rest)?;
+    Ok((variable, rest))
+}
 
 /// The variables that begin the tokens, up to where no name begins a further one, and the tokens after them.
 pub fn variables<'a>(
     alloc: Global,
     tokens: &'a [Token],
-) -> Result<(Items<Variable>, &'a [Token]), Unread>
-    ensures { Gives
-        (λ r. ReadsRun begins_name IsVariable tokens.now r.0 r.1.now)
-        (ReadsNoRun begins_name IsVariable tokens.now)
+) -> Result<(Items<Variable>, &'a [Token]), Mismatch>
+    ensures { Answers
+        (λ r. Parses (Each IsVariable) BeginsNoName tokens.now r.0 r.1.now (length r.1.now))
+        (Fails (Each IsVariable) BeginsNoName tokens.now)
         result }
 {
     let mut variables = Items::new(alloc);
     let mut rest = tokens;
     while begins_name(rest) {
         let (next, after) = variable(alloc, rest)?;
-        variables.push(next).map_err(Unread::OutOfMemory)?;
+        variables.push(next)?;
         rest = after;
     }
     Ok((variables, rest))
@@ -35,25 +45,28 @@ pub fn variables<'a>(
 
 /// Whether a name begins the tokens.
 fn begins_name(tokens: &[Token]) -> bool
-    ensures { result ≡ begins_name (kinds tokens.now) }
+    ensures { MatchBool result (BeginsNoName (kinds tokens.now) → ⊥) (BeginsNoName (kinds tokens.now)) }
 {
     match tokens {
         [] => false,
-        [first, ..] => matches!(first.kind, Kind::Name(_)),
+        [first, ..] => match first.kind {
+            Kind::Name(_) => true,
+            _ => false,
+        },
     }
 }
 
 /// The variable that begins the tokens, and the tokens after it.
-pub fn variable<'a>(alloc: Global, tokens: &'a [Token]) -> Result<(Variable, &'a [Token]), Unread>
-    ensures { Gives
-        (λ r. ReadsOne IsVariable tokens.now r.0 r.1.now)
-        (ReadsNoOne IsVariable tokens.now)
+fn variable<'a>(alloc: Global, tokens: &'a [Token]) -> Result<(Variable, &'a [Token]), Mismatch>
+    ensures { Answers
+        (λ r. Parses IsVariable Anything tokens.now r.0 r.1.now (length r.1.now))
+        (Fails IsVariable Anything tokens.now)
         result }
 {
     let (name, rest) = name(alloc, tokens)?;
-    let rest = expect(rest, Mark::Colon)?;
+    let rest = expect(rest, &Kind::Colon)?;
     let (range, rest) = range(alloc, rest)?;
-    let (init, rest) = optional(alloc, rest, Mark::Init)?;
+    let (init, rest) = optional(alloc, rest, &Kind::Init)?;
     Ok((Variable { name, range, init }, rest))
 }
 
@@ -61,20 +74,32 @@ pub fn variable<'a>(alloc: Global, tokens: &'a [Token]) -> Result<(Variable, &'a
 fn range<'a>(
     alloc: Global,
     tokens: &'a [Token],
-) -> Result<(Option<(Expr, Expr)>, &'a [Token]), Unread>
-    ensures { Gives
-        (λ r. ReadsOne IsRange tokens.now r.0 r.1.now)
-        (ReadsNoOne IsRange tokens.now)
+) -> Result<(Option<(Expr, Expr)>, &'a [Token]), Mismatch>
+    ensures { Answers
+        (λ r. Parses IsRange Anything tokens.now r.0 r.1.now (length r.1.now))
+        (Fails IsRange Anything tokens.now)
         result }
 {
-    match past(tokens, Mark::OpenBracket) {
+    match accept(tokens, &Kind::OpenBracket) {
         Some(rest) => {
-            let (low, rest) = expression(alloc, rest, Mark::Dots)?;
-            let (high, rest) = expression(alloc, rest, Mark::CloseBracket)?;
+            let (low, rest) = expression_until(
+                alloc,
+                Labels::Refused,
+                Precedence::Conditional,
+                rest,
+                &Kind::Dots,
+            )?;
+            let (high, rest) = expression_until(
+                alloc,
+                Labels::Refused,
+                Precedence::Conditional,
+                rest,
+                &Kind::CloseBracket,
+            )?;
             Ok((Some((low, high)), rest))
         }
         None => {
-            let rest = expect(tokens, Mark::Bool)?;
+            let rest = expect(tokens, &Kind::Bool)?;
             Ok((None, rest))
         }
     }

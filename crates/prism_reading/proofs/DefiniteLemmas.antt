@@ -104,10 +104,25 @@ found {Rule} ts p rest x definite cut text follows = record {
   };
 }
 
+-- what is found, where such tokens follow it
+pub followed : {X : Type 0} {Rule : List Kind → X → Type 0} {Wide Follows : List Kind → Type 0} {ts rest : List Token} {x : X} {left : ℕ}
+    → Parses Rule Wide ts x rest left → Follows (kinds rest) → Parses Rule Follows ts x rest left
+followed one follows = record { prefix = one.prefix; cut = one.cut; text = one.text; follows = follows; reach = one.reach }
+
 -- what was parsed, as kinds
 pub kinds_cut : {X : Type 0} {Rule : List Kind → X → Type 0} {Follows : List Kind → Type 0} {ts rest : List Token} {x : X} {left : ℕ}
     → (one : Parses Rule Follows ts x rest left) → kinds ts ≡ kinds one.prefix ++ kinds rest
 kinds_cut {rest} one = ap kinds one.cut ∙ map-append (λ t. t.kind) one.prefix rest
+
+-- what is missing, where other tokens follow the only text
+pub unfollowed : {X : Type 0} {Rule : List Kind → X → Type 0} {Follows : List Kind → Type 0} {ts rest : List Token} {x : X} {left : ℕ}
+    → IsDefinite Rule Anything → Parses Rule Anything ts x rest left → (Follows (kinds rest) → ⊥) → Fails Rule Follows ts left
+unfollowed {Follows} {rest} {x} definite one other = record {
+  none = λ prefix after tree cut text follows.
+      let same = definite.agrees (kinds one.prefix) prefix (kinds rest) after x tree one.text text tt tt (sym (kinds_cut one) ∙ cut) in
+      other (subst Follows (sym same.0) follows);
+  reach = one.reach;
+}
 
 -- no more is left from the first wrong token on than there is
 pub reach_within : {Begins : List Kind → Type 0} {ts : List Kind} {left : ℕ} → IsReach Begins ts left → left ≤ length ts

@@ -1,5 +1,5 @@
 -- Texts of one rule, one after another.
-use Rattle.std.proofs.Common.{◌≡◌, ℕ, ◌≤◌, List, [], ◌∷◌, ◌++◌, length, ◌+◌, refl, sym, ◌∙◌, ap, subst, arith, length-append, append_assoc, append-nil}
+use Rattle.std.proofs.Common.{◌≡◌, ◌⊎◌, inl, inr, ℕ, ◌≤◌, ◌<◌, List, [], ◌∷◌, ◌++◌, length, refl, sym, ◌∙◌, ap, subst, arith, length-append, append_assoc, append-nil}
 use Rattle.std.proofs.lemmas.List.{length-map, map-append}
 use Rattle.prism_syntax.specs.declared.tokens.Kind.{Kind}
 use Rattle.prism_syntax.specs.declared.tokens.Token.{Token}
@@ -216,5 +216,27 @@ longer (t ∷ p) x starts text = omega arith
 
 -- a text that begins with some token is not empty
 pub shorter : {X : Type 0} {Rule : List Kind → X → Type 0} {First : Kind → Type 0} {Before : List Kind → Type 0} {ts rest : List Token} {x : X} {m : ℕ}
-    → Starts Rule First → Parses Rule Before ts x rest m → length rest + 1 ≤ length ts
+    → Starts Rule First → Parses Rule Before ts x rest m → length rest < length ts
 shorter {Rule} {ts} {rest} {x} starts one = omega (arith, ap length one.cut, length-append one.prefix rest, longer one.prefix x starts one.text)
+
+each_then_some : {X Y : Type 0} {Rule : List Kind → X → Type 0} {Second : List Kind → Y → Type 0} {First Then : Kind → Type 0} (l : List Kind) (z : List X × Y)
+    → Starts Rule First → Starts Second Then → Both (Each Rule) Second l z → l ≡ [] → ⊥
+each_then_some {Second} _ _ starts ends (both {y} model.Each.end second) equal = ends.some y (subst (λ m. Second m y) equal second)
+each_then_some _ _ starts ends (both (model.Each.more {a = []} {x} first others) second) equal = starts.some x first
+each_then_some _ _ starts ends (both (model.Each.more {a = t ∷ a} {x} first others) second) equal = cc
+
+each_then_first : {X Y : Type 0} {Rule : List Kind → X → Type 0} {Second : List Kind → Y → Type 0} {First Then : Kind → Type 0} (t : Kind) (l m : List Kind) (z : List X × Y)
+    → Starts Rule First → Starts Second Then → Both (Each Rule) Second l z → l ≡ t ∷ m → First t ⊎ Then t
+each_then_first {Second} t _ m _ starts ends (both {y} model.Each.end second) equal = inr (ends.first t m y (subst (λ n. Second n y) equal second))
+each_then_first t _ m _ starts ends (both (model.Each.more {a = []} {x} first others) second) equal = absurd (starts.some x first)
+each_then_first {First} t _ m _ starts ends (both (model.Each.more {a = u ∷ a} {x} first others) second) equal =
+    let is : u ≡ t = cc in
+    inl (subst First is (starts.first u a x first))
+
+-- texts one after another and then one of another rule begin as either does
+pub each_then_starts : {X Y : Type 0} {Rule : List Kind → X → Type 0} {Second : List Kind → Y → Type 0} {First Then : Kind → Type 0}
+    → Starts Rule First → Starts Second Then → Starts (Both (Each Rule) Second) (λ t. First t ⊎ Then t)
+each_then_starts starts ends = record {
+  some = λ z text. each_then_some [] z starts ends text refl;
+  first = λ t a z text. each_then_first t (t ∷ a) a z starts ends text refl;
+}

@@ -5,6 +5,7 @@ pub mod OverlapLemmas
 pub mod DefiniteLemmas
 pub mod BothLemmas
 pub mod MadeLemmas
+pub mod EndedLemmas
 pub mod OneOfLemmas
 pub mod EachLemmas
 pub mod SeparatedLemmas

@@ -5,6 +5,8 @@ use Rattle.prism_syntax.specs.declared.tokens.Token.{Token}
 use Rattle.prism_syntax.specs.Tokens.{kinds}
 use Rattle.prism_reading.specs.Reach.{IsPrefix, IsReach}
 use Rattle.prism_reading.specs.Reading.{Anything, Parses, Fails}
+use Rattle.prism_reading.specs.Sequences.{Made}
+use Rattle.prism_reading.specs.Sequences as sequence
 use Rattle.prism_reading.proofs.DefiniteLemmas.{Agrees, IsDefinite, HasText, Starts, Leads}
 
 -- the parts of a tree of a rule, with their text
@@ -85,3 +87,10 @@ made_starts made starts = record {
   some = λ z text. let one = made.back [] z text in starts.some one.parts one.text;
   first = λ t a z text. let one = made.back (t ∷ a) z text in starts.first t a one.parts one.text;
 }
+
+unmade : {P Z : Type 0} {Parts : List Kind → P → Type 0} (make : P → Z) (a : List Kind) (z : Z) → Made make Parts a z → Parted Parts make a z
+unmade make a _ (sequence.made {p} text) = record { parts = p; text = text; is = refl }
+
+-- a rule with trees made from another's is one
+pub is_made : {P Z : Type 0} {make : P → Z} {Parts : List Kind → P → Type 0} → IsMade Parts make (Made make Parts)
+is_made {make} = record { to = λ a p text. sequence.made text; back = λ a z text. unmade make a z text }

@@ -1,5 +1,5 @@
 -- A text of one rule or of another: what is found, and what is missing.
-use Rattle.std.proofs.Common.{◌≡◌, ◌⊎◌, inl, inr, ℕ, ◌≤◌, List, [], ◌∷◌, ◌++◌, length, refl, sym, ◌∙◌, ap, subst, arith, length-append}
+use Rattle.std.proofs.Common.{◌≡◌, ◌⊎◌, inl, inr, ⊎_elim, ℕ, ◌≤◌, List, [], ◌∷◌, ◌++◌, length, refl, sym, ◌∙◌, ap, subst, arith, length-append}
 use Rattle.std.proofs.lemmas.List.{length-map}
 use Rattle.prism_syntax.specs.declared.tokens.Kind.{Kind}
 use Rattle.prism_syntax.specs.declared.tokens.Token.{Token}
@@ -163,3 +163,34 @@ first_alone one two = first_lacks one two (missing_within one)
 pub second_alone : {X Y : Type 0} {A : List Kind → X → Type 0} {B : List Kind → Y → Type 0} {Follows : List Kind → Type 0} {ts : List Token} {left : ℕ}
     → Fails A Follows ts (length ts) → Fails B Follows ts left → Fails (OneOf A B) Follows ts left
 second_alone one two = second_lacks one two (missing_within two)
+
+-- where the tokens that begin the other rule begin the first, and no text of the other is there
+pub first_chosen : {X Y : Type 0} {A : List Kind → X → Type 0} {B : List Kind → Y → Type 0} {Follows : List Kind → Type 0} {ts : List Token} {left : ℕ}
+    → ((p rest : List Kind) (y : Y) → kinds ts ≡ p ++ rest → B p y → ⊥) → ((p rest : List Kind) → kinds ts ≡ p ++ rest → IsPrefix B p → IsPrefix A p)
+    → Fails A Follows ts left → Fails (OneOf A B) Follows ts left
+first_chosen {ts} {left} no_text begins fails = record {
+  none = λ p rest z cut text follows. none_of_both (kinds ts) p rest z fails.none (λ q after y equal other _. no_text q after y equal other) cut text follows;
+  reach = record {
+    prefix = fails.reach.prefix;
+    rest = fails.reach.rest;
+    cut = fails.reach.cut;
+    count = fails.reach.count;
+    begins = first_begins fails.reach.begins;
+    furthest = λ p rest cut whole. fails.reach.furthest p rest cut (⊎_elim (λ one. one) (λ other. begins p rest cut other) (either p whole));
+  };
+}
+
+pub second_chosen : {X Y : Type 0} {A : List Kind → X → Type 0} {B : List Kind → Y → Type 0} {Follows : List Kind → Type 0} {ts : List Token} {left : ℕ}
+    → ((p rest : List Kind) (x : X) → kinds ts ≡ p ++ rest → A p x → ⊥) → ((p rest : List Kind) → kinds ts ≡ p ++ rest → IsPrefix A p → IsPrefix B p)
+    → Fails B Follows ts left → Fails (OneOf A B) Follows ts left
+second_chosen {ts} {left} no_text begins fails = record {
+  none = λ p rest z cut text follows. none_of_both (kinds ts) p rest z (λ q after x equal other _. no_text q after x equal other) fails.none cut text follows;
+  reach = record {
+    prefix = fails.reach.prefix;
+    rest = fails.reach.rest;
+    cut = fails.reach.cut;
+    count = fails.reach.count;
+    begins = second_begins fails.reach.begins;
+    furthest = λ p rest cut whole. fails.reach.furthest p rest cut (⊎_elim (λ other. begins p rest cut other) (λ one. one) (either p whole));
+  };
+}

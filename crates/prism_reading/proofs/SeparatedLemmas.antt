@@ -1,5 +1,5 @@
 -- Texts of one rule with a token between each two of them.
-use Rattle.std.proofs.Common.{◌≡◌, ℕ, ◌≤◌, List, [], ◌∷◌, ◌++◌, length, map, refl, sym, ◌∙◌, ap, subst, arith, length-append, append_assoc, append-nil}
+use Rattle.std.proofs.Common.{◌≡◌, ℕ, ◌≤◌, ◌<◌, List, [], ◌∷◌, ◌++◌, length, map, refl, sym, ◌∙◌, ap, subst, arith, length-append, append_assoc, append-nil}
 use Rattle.std.proofs.lemmas.List.{length-map, map-append}
 use Rattle.prism_syntax.specs.declared.tokens.Kind.{Kind}
 use Rattle.prism_syntax.specs.declared.tokens.Token.{Token}
@@ -189,3 +189,12 @@ pub separated_onward : {X : Type 0} {between : Kind} {Rule : List Kind → X →
     → Onward (Separated between Rule) Follows ts (xs ++ (x ∷ [])) next
 separated_onward {x} divides has onward one token =
     onward_more x onward (λ ys s more. further_found divides one token more) (λ left fails. further_missing divides has one token fails)
+
+token_length : (kind : Kind) (p : List Token) (x : Unit {0}) → IsTerminal kind (kinds p) x → length p ≡ 1
+token_length kind p x text = sym (length-map p (λ t. t.kind)) ∙ ap length (one_token kind (kinds p) x text)
+
+-- fewer tokens are left after the token between
+pub further_shorter : {X : Type 0} {between : Kind} {Rule : List Kind → X → Type 0} {Before : List Kind → Type 0} {ts r next : List Token} {x : X} {m n : ℕ}
+    → Parses Rule Before ts x r m → Parses (IsTerminal between) Anything r tt next n → length next < length ts
+further_shorter {between} {ts} {r} {next} one token =
+    omega (arith, ap length one.cut, length-append one.prefix r, ap length token.cut, length-append token.prefix next, token_length between token.prefix tt token.text)

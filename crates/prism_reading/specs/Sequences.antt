@@ -28,3 +28,7 @@ pub data Ended {X : Type 0} (Rule : List Kind → X → Type 0) (end : Kind) : L
 pub data OneOf {X Y : Type 0} (First : List Kind → X → Type 0) (Second : List Kind → Y → Type 0) : List Kind → X ⊎ Y → Type 0 where
   first : {a : List Kind} {x : X} → First a x → OneOf First Second a (inl x)
   second : {a : List Kind} {y : Y} → Second a y → OneOf First Second a (inr y)
+
+-- a text of a rule, with a tree that is made from its tree
+pub data Made {P Z : Type 0} (make : P → Z) (Parts : List Kind → P → Type 0) : List Kind → Z → Type 0 where
+  made : {a : List Kind} {p : P} → Parts a p → Made make Parts a (make p)

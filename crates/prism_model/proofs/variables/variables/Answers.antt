@@ -1,30 +1,20 @@
-use Rattle.std.proofs.Common.{◌≡◌, [], ◌∷◌, ◌++◌, refl, sym, ◌∙◌, rules}
-use Rattle.std.proofs.lemmas.Result.{err_from_is_err_and}
-use Rattle.prism_syntax.specs.Models.{IsVariable}
-use Rattle.prism_model.specs.Runs.{begins_name}
-use Rattle.prism_model.proofs.AnswerLemmas.{passed_up}
-use Rattle.prism_model.proofs.RunLemmas.{run_begun, run_more, run_none, run_ended, run_shorter}
-use Rattle.prism_model.proofs.StartLemmas.{variable_starts}
+use Rattle.std.proofs.Common.{◌∷◌, [], ◌++◌, ◌≡◌}
+use Rattle.prism_model.proofs.AnswerLemmas.{passed}
+use Rattle.prism_model.proofs.DefiniteLineLemmas.{variable_starts}
+use Rattle.prism_model.proofs.ModuleLemmas.{variables_repeat}
+use Rattle.prism_reading.proofs.EachLemmas.{each_onward, next_missing, onward_ended, shorter}
 use Rattle.prism_model.proofs.variables.variables.Goals as goal
 
-pub loop-alloc-init : goal.loop-alloc-init
-loop-alloc-init c = rw c.new-variables.ensures (run_begun begins_name IsVariable c.args.tokens.now)
+pub returns-in_err-next : goal.returns-in_err-next
+returns-in_err-next c = passed _ _ _ c.in_err-next.field-0.0 c.from_residual.result c.from_residual.ensures.1 c.in_err-next.ensures (λ left none. c.loop-alloc.invariant.none left (next_missing variables_repeat c.loop-alloc-test.ensures none))
+
+pub loop-alloc-smaller : goal.loop-alloc-smaller
+loop-alloc-smaller c = shorter variable_starts c.in_ok-next.ensures
 
 pub loop-alloc-preserved : goal.loop-alloc-preserved
 loop-alloc-preserved c =
-    let pushed : c.push.new.self ≡ c.loop-alloc.variables ++ (c.in_ok-next.next ∷ []) = search rules in
-    rw pushed (run_more c.loop-alloc.invariant c.in_ok-next.ensures (sym c.begins_name.ensures ∙ c.loop-alloc-test.true))
-
-pub loop-alloc-smaller : goal.loop-alloc-smaller
-loop-alloc-smaller c = run_shorter begins_name refl variable_starts c.in_ok-next.ensures
-
-pub returns-in_err-next : goal.returns-in_err-next
-returns-in_err-next c =
-    let fault = err_from_is_err_and c.from_residual.result c.from_residual.ensures.1 in
-    rw (fault.1, fault.2)
-    (passed_up c.in_err-next.field-0.0
-    (λ left none. run_none c.loop-alloc.invariant none (sym c.begins_name.ensures ∙ c.loop-alloc-test.true))
-    c.in_err-next.ensures)
+    let pushed : c.push.new.self ≡ c.loop-alloc.variables ++ (c.in_ok-next.next ∷ []) = c.in_ok-push.ensures.ok in
+    rw pushed (each_onward variables_repeat c.loop-alloc-test.ensures c.loop-alloc.invariant c.in_ok-next.ensures)
 
 pub returns : goal.returns
-returns c = run_ended variable_starts c.loop-alloc.invariant (sym c.begins_name.ensures ∙ c.loop-alloc-test.false)
+returns c = onward_ended variables_repeat c.loop-alloc.invariant c.loop-alloc-test.ensures

@@ -1,9 +1,0 @@
-use Rattle.std.proofs.Common.{length}
-use Rattle.prism_model.proofs.RewardsLemmas.{Passes}
-use Rattle.prism_model.proofs.rewards.past_end.Given as goal
-
-abbrev pub invariant-loop-rest : goal.invariant-loop-rest
-invariant-loop-rest l = Passes l.fn.tokens l.rest
-
-abbrev pub decreases-loop-rest : goal.decreases-loop-rest
-decreases-loop-rest l = length l.rest
