@@ -72,7 +72,7 @@ pub record Ends (labels : Labels) (tokens before rest : List Kind) : Type 0 wher
 later_ends : {labels : Labels} {tokens : List Kind} (before rest : List Kind) → tokens ≡ before ++ rest → IsLaterArrow labels tokens (length before) → Ends labels tokens before rest
 later_ends before rest cut later =
     let whole : before ++ rest ≡ (later.before ++ (k.Implies ∷ later.operand)) ++ (k.Implies ∷ later.after) =
-        sym cut ∙ later.cut ∙ sym (append_assoc later.before (k.Implies ∷ later.operand) (k.Implies ∷ later.after)) in
+    sym cut ∙ later.cut ∙ sym (append_assoc later.before (k.Implies ∷ later.operand) (k.Implies ∷ later.after)) in
     let parts = length-append later.before (k.Implies ∷ later.operand) in
     let count = later.count in
     let same = same_cut before (later.before ++ (k.Implies ∷ later.operand)) rest (k.Implies ∷ later.after) whole (omega arith) in
@@ -136,13 +136,13 @@ later_told {labels = labels} {tokens = tokens} {rest = rest} {place = place} {in
         outside = arrow.outside;
       },
       λ later.
-        let ends = later_ends before rest cut later in
-        let kept : place.last ≡ Some (length ends.front) = (later_place at ends).0 in
-        let place_same : index ≡ length ends.front = cc in
-        let same = same_cut arrow.before ends.front (k.Implies ∷ arrow.after) (k.Implies ∷ ends.operand) (sym arrow.cut ∙ ends.cut) (count ∙ place_same) in
-        let tails : k.Implies ∷ arrow.after ≡ k.Implies ∷ ends.operand = same.1 in
-        let operands : arrow.after ≡ ends.operand = cc in
-        told.1 (ends.tree, subst (λ ts. Derives labels rule.Equivalence ts ends.tree) (sym operands) ends.text),
+          let ends = later_ends before rest cut later in
+          let kept : place.last ≡ Some (length ends.front) = (later_place at ends).0 in
+          let place_same : index ≡ length ends.front = cc in
+          let same = same_cut arrow.before ends.front (k.Implies ∷ arrow.after) (k.Implies ∷ ends.operand) (sym arrow.cut ∙ ends.cut) (count ∙ place_same) in
+          let tails : k.Implies ∷ arrow.after ≡ k.Implies ∷ ends.operand = same.1 in
+          let operands : arrow.after ≡ ends.operand = cc in
+          told.1 (ends.tree, subst (λ ts. Derives labels rule.Equivalence ts ends.tree) (sym operands) ends.text),
     )
 
 -- arrows that stand among some tokens stand there where one more follows
@@ -233,16 +233,16 @@ operand_told {labels = labels} {tokens = tokens} {longest = longest} {tree = tre
     let whole : operand ++ kinds rest ≡ front ++ kinds longest = sym cut ∙ parsed in
     let sizes : length (operand ++ kinds rest) ≡ length (front ++ kinds longest) = ap length whole in (
       λ is.
-        let size : length longest ≡ length rest = eqb-true (length longest) (length rest) is in
-        let same = same_cut operand front (kinds rest) (kinds longest) whole (omega arith) in
-        (tree, subst (λ ts. Derives labels rule.Equivalence ts tree) (sym same.0) told.parses.text),
+          let size : length longest ≡ length rest = eqb-true (length longest) (length rest) is in
+          let same = same_cut operand front (kinds rest) (kinds longest) whole (omega arith) in
+          (tree, subst (λ ts. Derives labels rule.Equivalence ts tree) (sym same.0) told.parses.text),
       λ text.
-        let least = told.longest operand (kinds rest) text.0 cut text.1 in
-        let size : length longest ≡ length rest = ⊎_elim
-            (λ equal. let equal_sizes : length (kinds rest) ≡ length (kinds longest) = ap length equal.1 in omega arith)
-            (λ goes. absurd (arrow_stops (kinds rest) begins goes))
-            (compared (kinds rest) (kinds longest) text.1 told.parses.text whole (omega arith)) in
-        eq-eqb (length longest) (length rest) size,
+          let least = told.longest operand (kinds rest) text.0 cut text.1 in
+          let size : length longest ≡ length rest = ⊎_elim
+          (λ equal. let equal_sizes : length (kinds rest) ≡ length (kinds longest) = ap length equal.1 in omega arith)
+          (λ goes. absurd (arrow_stops (kinds rest) begins goes))
+          (compared (kinds rest) (kinds longest) text.1 told.parses.text whole (omega arith)) in
+          eq-eqb (length longest) (length rest) size,
     )
   where
     arrow_stops : (ts : List Kind) → begins_arrow ts ≡ true → GoesOn rule.Equivalence ts → ⊥

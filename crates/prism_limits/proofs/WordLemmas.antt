@@ -86,8 +86,8 @@ pub look_next : {text : TextKind} {inside next : Bool} {tokens rest : List Kind}
     → ((inside ≡ true) ⊎ (IsRefused text token rest → ⊥)) → next ≡ inside_after inside token → Looks text next tokens rest (index + 1)
 look_next {text = text} {inside = inside} {rest = rest} {token = token} walk passed after =
     walk_next walk (λ has.
-      let found = here walk has in
-      ⊎_elim (λ (was : inside ≡ true). found.1 was) (λ (not_refused : IsRefused text token rest → ⊥). not_refused found.0) passed)
+    let found = here walk has in
+    ⊎_elim (λ (was : inside ≡ true). found.1 was) (λ (not_refused : IsRefused text token rest → ⊥). not_refused found.0) passed)
     (subst (λ b. Knows b (walk.before ++ (token ∷ []))) (sym after) (inside_next inside token walk.before walk.known))
 
 -- the walk has come to a refused word

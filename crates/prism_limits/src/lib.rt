@@ -17,4 +17,3 @@ pub use laws::{arrow_law, one_first};
 pub use nesting::too_deep;
 pub use spellings::spelled;
 pub use words::refused_word;
-

@@ -69,7 +69,10 @@ fn are_brackets_full(text: TextKind, counts: NestingCounts) -> bool
 {
     match text {
         TextKind::Nested => {
-            BRACKET_LIMIT <= counts.opened_brackets.saturating_sub(counts.closed_brackets)
+            BRACKET_LIMIT
+                <= counts
+                    .opened_brackets
+                    .saturating_sub(counts.closed_brackets)
         }
         TextKind::Model | TextKind::Property => false,
     }

@@ -50,17 +50,17 @@ pub later_within : {labels : Labels} {index : ℕ} (prefix rest : List Kind) →
 later_within {labels} {index} prefix rest within later =
     let front = up_to later.before later.operand in
     let whole : front ++ later.after ≡ prefix ++ rest =
-        append_assoc later.before (k.Implies ∷ (later.operand ++ (k.Implies ∷ []))) later.after
-        ∙ ap (λ ts. later.before ++ (k.Implies ∷ ts)) (append_assoc later.operand (k.Implies ∷ []) later.after) ∙ sym later.cut in
+    append_assoc later.before (k.Implies ∷ (later.operand ++ (k.Implies ∷ []))) later.after
+    ∙ ap (λ ts. later.before ++ (k.Implies ∷ ts)) (append_assoc later.operand (k.Implies ∷ []) later.after) ∙ sym later.cut in
     let parts = length-append later.before (k.Implies ∷ (later.operand ++ (k.Implies ∷ []))) in
     let others = length-append later.operand (k.Implies ∷ []) in
     let count = later.count in
     ⊎_elim
     (λ (inside : (after : List Kind) × (prefix ≡ front ++ after)). within_prefix prefix inside.0 later inside.1)
     (λ (beyond : (over : List Kind) × (front ≡ prefix ++ over) × (rest ≡ over ++ later.after)).
-      let size : length front ≡ length (prefix ++ beyond.0) = ap length beyond.1 in
-      let sum = length-append prefix beyond.0 in
-      within_prefix prefix [] later (nothing_over front prefix beyond.0 (omega arith) beyond.1 ∙ sym (append-nil front)))
+    let size : length front ≡ length (prefix ++ beyond.0) = ap length beyond.1 in
+    let sum = length-append prefix beyond.0 in
+    within_prefix prefix [] later (nothing_over front prefix beyond.0 (omega arith) beyond.1 ∙ sym (append-nil front)))
     (cut_twice front later.after prefix rest whole)
 
 -- a later arrow stands among its tokens

@@ -32,7 +32,13 @@ fn parse_prefix<'a>(alloc: Global, tokens: &'a [Token]) -> Result<(Property, &'a
 {
     let rest = expect(tokens, &Kind::P)?;
     let (cmp, rest) = comparison(rest)?;
-    let (bound, rest) = expression_until(alloc, Labels::Allowed, Precedence::Sum, rest, &Kind::OpenBracket)?;
+    let (bound, rest) = expression_until(
+        alloc,
+        Labels::Allowed,
+        Precedence::Sum,
+        rest,
+        &Kind::OpenBracket,
+    )?;
     let (path, rest) = path(alloc, rest)?;
     Ok((Property { cmp, bound, path }, rest))
 }

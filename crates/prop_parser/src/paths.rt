@@ -28,7 +28,13 @@ pub fn path<'a>(alloc: Global, tokens: &'a [Token]) -> Result<(PathText, &'a [To
         let ((time, state), rest) = timed(alloc, rest)?;
         return Ok((PathText::Globally(time, state), rest));
     }
-    let (first, rest) = expression_until(alloc, Labels::Allowed, Precedence::Conditional, tokens, &Kind::U)?;
+    let (first, rest) = expression_until(
+        alloc,
+        Labels::Allowed,
+        Precedence::Conditional,
+        tokens,
+        &Kind::U,
+    )?;
     let ((time, second), rest) = timed(alloc, rest)?;
     Ok((PathText::Until(first, time, second), rest))
 }
@@ -52,5 +58,11 @@ fn last_state<'a>(alloc: Global, tokens: &'a [Token]) -> Result<(Expr, &'a [Toke
         (Fails (IsStateUntil k.CloseBracket) Anything tokens.now)
         result }
 {
-    expression_until(alloc, Labels::Allowed, Precedence::Conditional, tokens, &Kind::CloseBracket)
+    expression_until(
+        alloc,
+        Labels::Allowed,
+        Precedence::Conditional,
+        tokens,
+        &Kind::CloseBracket,
+    )
 }

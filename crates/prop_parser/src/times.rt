@@ -62,7 +62,13 @@ fn last_step<'a>(alloc: Global, tokens: &'a [Token]) -> Result<(Expr, &'a [Token
         Kind::Whole(value) => Ok((Expr::Whole(*value), rest)),
         Kind::Name(text) => Ok((Expr::Name(text.copy(alloc)?), rest)),
         Kind::Open => {
-            let (inside, rest) = expression_until(alloc, Labels::Allowed, Precedence::Conditional, rest, &Kind::Close)?;
+            let (inside, rest) = expression_until(
+                alloc,
+                Labels::Allowed,
+                Precedence::Conditional,
+                rest,
+                &Kind::Close,
+            )?;
             Ok((Expr::Paren(Boxed::new(alloc, inside)?), rest))
         }
         _ => Err(Mismatch::NoText { left: tokens.len() }),
