@@ -80,20 +80,23 @@ fn deepest(alloc: Global) -> Result<Expr, AllocError> {
     Ok(tree)
 }
 
+/// The tree with `(y)` for each use of `x`.
+fn with_y_for_x(alloc: Global, tree: &Expr) -> Result<Expr, AllocError> {
+    let mut table = IndexMap::new(alloc);
+    let paren = Expr::Paren(Boxed::new(alloc, name(alloc, b"y")?)?);
+    table.insert(Text::from_bytes(alloc, b"x")?, paren)?;
+    tree.replace(alloc, &table)
+}
+
 #[test]
 fn the_deepest_tree_is_copied_counted_replaced_and_let_go(rt: HostRuntime) -> Result<(), Fail> {
     let alloc = rt.alloc();
     let tree = deepest(alloc)?;
     let again = tree.copy(alloc)?;
-    let mut table = IndexMap::new(alloc);
-    let paren = Expr::Paren(Boxed::new(alloc, name(alloc, b"y")?)?);
-    table.insert(Text::from_bytes(alloc, b"x")?, paren)?;
-    let replaced = again.replace(alloc, &table)?;
-    assert_eq!(rt; (nodes(&tree), depth_of_parens(&tree)), (11_329, 64));
-    assert_eq!(rt;
-        (nodes(&replaced), depth_of_parens(&replaced)),
-        (11_330, 65)
-    );
+    let replaced = with_y_for_x(alloc, &again)?;
+    assert_eq!(rt; nodes(&tree), 11_329);
+    assert_eq!(rt; nodes(&replaced), 11_330);
+    assert_eq!(rt; depth_of_parens(&replaced), 65);
     Ok(())
 }
 
