@@ -1,39 +1,9 @@
 //! Trees as texts, with each part that has parts of its own between braces.
 
 use prism_syntax::{
-    Branch, Command, ConstText, Expr, Func, ModelText, Module, Named, Op, SortWord, Variable,
+    Branch, Command, ConstText, Expr, ModelText, Module, Named, Op, SortWord, Variable, spelling,
 };
 use std::alloc::{AllocError, Global};
-
-fn word_of(operator: Op) -> &'static [u8] {
-    match operator {
-        Op::Imp => b"=>",
-        Op::Iff => b"<=>",
-        Op::Or => b"|",
-        Op::And => b"&",
-        Op::Eq => b"=",
-        Op::Ne => b"!=",
-        Op::Lt => b"<",
-        Op::Le => b"<=",
-        Op::Gt => b">",
-        Op::Ge => b">=",
-        Op::Add => b"+",
-        Op::Sub => b"-",
-        Op::Mul => b"*",
-        Op::Div => b"/",
-    }
-}
-
-fn name_of(function: Func) -> &'static [u8] {
-    match function {
-        Func::Min => b"min",
-        Func::Max => b"max",
-        Func::Floor => b"floor",
-        Func::Ceil => b"ceil",
-        Func::Pow => b"pow",
-        Func::Mod => b"mod",
-    }
-}
 
 /// Appends an expression.
 #[cycle(show)]
@@ -61,7 +31,7 @@ pub fn show(alloc: Global, out: &mut Vec<u8>, expr: &Expr) -> Result<(), AllocEr
         Expr::Not(operand) => between(alloc, out, b"!{", operand.get(), b"}"),
         Expr::Minus(operand) => between(alloc, out, b"-{", operand.get(), b"}"),
         Expr::Call(function, parts) => {
-            out.extend_from_slice(name_of(*function))?;
+            out.extend_from_slice(function.spelling())?;
             list(alloc, out, parts.as_slice(), &[])
         }
         Expr::Level(operands, operators) => {
@@ -102,7 +72,10 @@ fn list(
     for expr in exprs {
         if 0 < number {
             match operators.get(number - 1) {
-                Some(operator) => out.extend_from_slice(word_of(*operator))?,
+                Some(operator) => {
+                    let token = operator.token();
+                    out.extend_from_slice(spelling(&token).unwrap_or(b""))?;
+                }
                 None => out.extend_from_slice(b",")?,
             }
         }
