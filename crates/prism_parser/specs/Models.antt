@@ -1,5 +1,5 @@
 -- When a tree of a model has a chain of two or more arrows: one of its expressions has.
-use Rattle.std.specs.Prelude.{◌⊎◌, ℕ, List, [], ◌∷◌, Option, Some, None}
+use Rattle.std.specs.Prelude.{◌⊎◌, ℕ, List, ◌∷◌, Option, Some, None}
 use Rattle.prism_syntax.specs.declared.expressions.Expr.{Expr}
 use Rattle.prism_syntax.specs.declared.commands.Branch.{Branch}
 use Rattle.prism_syntax.specs.declared.commands.Command.{Command}
