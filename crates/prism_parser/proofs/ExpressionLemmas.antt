@@ -1,7 +1,7 @@
 -- The longest expression from a token on is one, and what parsing tells of it.
-use Rattle.std.proofs.Common.{◌≡◌, ℕ, ◌+◌, ◌-◌, ◌≤◌, ◌++◌, List, length, take, drop, refl, sym, ◌∙◌, ap, subst, arith, ⊎_elim, ◌⊎◌}
+use Rattle.std.proofs.Common.{◌≡◌, ℕ, ◌+◌, ◌-◌, ◌++◌, List, length, take, drop, sym, ◌∙◌, ap, subst, arith}
 use Rattle.std.specs.Prelude.{All, Result, Ok, Err, IfOk}
-use Rattle.std.proofs.lemmas.List.{append_cancel_right, map-append, length-append, length-map}
+use Rattle.std.proofs.lemmas.List.{map-append, length-append, length-map}
 use Rattle.std.proofs.lemmas.List.Elements.{All-drop, All-map}
 use lib.Seq.{take_at}
 use Rattle.prism_syntax.specs.declared.labels.Labels.TheVariants.{Allowed}
@@ -12,7 +12,6 @@ use Rattle.prism_syntax.specs.declared.precedence.Precedence.TheVariants as rule
 use Rattle.prism_syntax.specs.Tokens.{kinds}
 use Rattle.prism_syntax.specs.Expressions.{IsExpr}
 use Rattle.prism_syntax.specs.WellFormed.{IsFormedKind, IsFormed}
-use Rattle.prism_reading.specs.Reading.{Anything}
 use Rattle.prism_reading.proofs.ReachLemmas.{reach_one}
 use Rattle.prism_limits.specs.declared.kinds.TextKind.TheVariants.{Property}
 use Rattle.prism_limits.specs.Arrows.{IsLaterArrow, HasLongChain}
@@ -22,7 +21,7 @@ use Rattle.prism_expression.specs.Longest.{ParsesLongest}
 use Rattle.prism_expression.proofs.CompareLemmas.{one_tree}
 use Rattle.prism_expression.proofs.FormedLemmas.{all_front}
 use Rattle.prism_parser.specs.declared.fault.ParseFault.{ParseFault}
-use Rattle.prism_parser.specs.Refusals.{IsAllowed, IsAccepted}
+use Rattle.prism_parser.specs.Refusals.{IsAccepted}
 use Rattle.prism_parser.specs.Outcome.{Tells}
 use Rattle.prism_parser.specs.Expressions.{FindsExpression, HasLong, BeginsNoExpression}
 use Rattle.prism_parser.proofs.OutcomeLemmas.{IsDecided}

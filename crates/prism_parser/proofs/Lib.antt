@@ -3,3 +3,9 @@ pub mod StepLemmas
 pub mod OutcomeLemmas
 pub mod TextLemmas
 pub mod ExpressionLemmas
+pub mod KnownLemmas
+pub mod SequenceLemmas
+pub mod LineLemmas
+pub mod RewardsLemmas
+pub mod ItemLemmas
+pub mod ModelLemmas

@@ -1,5 +1,5 @@
 -- The tree of well-formed tokens is well formed where no chain of it is long.
-use Rattle.std.proofs.Common.{◌≡◌, List, ◌∷◌, ◌++◌, length, ◌+◌, refl, sym, ap, ◌∙◌}
+use Rattle.std.proofs.Common.{List, ◌∷◌, ◌++◌, refl, sym, ap, ◌∙◌}
 use Rattle.std.specs.Prelude.{All}
 use Rattle.prism_syntax.specs.declared.labels.Labels.{Labels}
 use Rattle.prism_syntax.specs.declared.tokens.Kind.{Kind}

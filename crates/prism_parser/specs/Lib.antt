@@ -2,4 +2,5 @@ pub mod Places
 pub mod Refusals
 pub mod Outcome
 pub mod Expressions
+pub mod Models
 pub mod Steps

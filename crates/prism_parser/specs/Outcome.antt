@@ -24,7 +24,8 @@ pub record ComesWhere {X : Type 0} (answer : Result X ParseFault) (this : Result
   pub always : Fact → (answer ≡ this) ⊎ RanOut answer
 
 -- an answer is true of the tokens; out of memory tells nothing
-abbrev pub Tells : {X : Type 0} → TextKind → (X → Type 0) → (X → Type 0) → (ℕ → Type 0) → List Token → ℕ → Result X ParseFault → Type 0
+abbrev pub Tells : {X : Type 0} → TextKind → (X → Type 0) → (X → Type 0) → (ℕ → Type 0)
+    → List Token → ℕ → Result X ParseFault → Type 0
 Tells text Found Long Failed tokens start (Ok tree) = IsAccepted text Found Long tokens start tree
 Tells text Found Long Failed tokens start (Err (Unsupported word at)) = IsUnsupported text Found Long tokens start word at
 Tells text Found Long Failed tokens start (Err (TooDeep at)) = RefusesNesting text tokens start at

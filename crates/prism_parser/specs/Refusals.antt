@@ -1,4 +1,6 @@
--- Why tokens are refused, and where, from a token's index on. `Found` says of a tree that the grammar has it for them, `Failed` that it has none and how many tokens are left from the first wrong one on, and `Long` that a chain of a tree has two or more arrows.
+-- Why tokens are refused, and where, from a token's index on. `Found` says of a tree that the grammar has it for
+-- them, `Failed` that it has none and how many tokens are left from the first wrong one on, and `Long` that a chain
+-- of a tree has two or more arrows.
 use Rattle.std.specs.Prelude.{◌≡◌, ◌+◌, ◌-◌, ℕ, List, codes, drop, length, Some, slice_get}
 use Rattle.prism_syntax.specs.declared.labels.Labels.{Labels}
 use Rattle.prism_syntax.specs.declared.labels.Labels.TheVariants.{Allowed, Refused}
@@ -40,14 +42,16 @@ pub record RefusesNesting (text : TextKind) (tokens : List Token) (start at : �
   pub first : IsFirst (IsTooDeep text (kinds (drop start tokens))) index
   pub place : place_of tokens (start + index) ≡ at
 
--- the tokens are allowed, and the grammar has no tree for them; the place is that of the first wrong token, or the end of the text
+-- the tokens are allowed, and the grammar has no tree for them; the place is that of the first wrong token, or the
+-- end of the text
 pub record RefusesGrammar (text : TextKind) (Failed : ℕ → Type 0) (tokens : List Token) (start at : ℕ) : Type 0 where
   pub allowed : IsAllowed text (kinds (drop start tokens))
   pub left : ℕ
   pub failed : Failed left
   pub place : place_of tokens (length tokens - left) ≡ at
 
--- the tokens are allowed and have a tree, of which a chain has two or more arrows, and at this place is the first arrow that has another one of its chain before it
+-- the tokens are allowed and have a tree, of which a chain has two or more arrows, and at this place is the first
+-- arrow that has another one of its chain before it
 pub record RefusesArrow {X : Type 0} (text : TextKind) (Found Long : X → Type 0) (tokens : List Token) (start at : ℕ) : Type 0 where
   pub allowed : IsAllowed text (kinds (drop start tokens))
   pub tree : X
@@ -59,8 +63,10 @@ pub record RefusesArrow {X : Type 0} (text : TextKind) (Found Long : X → Type 
 
 -- a word is refused: one that is refused by name, or the arrow `=>` in a chain that has another one before it
 pub data IsUnsupported {X : Type 0} (text : TextKind) (Found Long : X → Type 0) (tokens : List Token) (start : ℕ) : List ℕ → ℕ → Type 0 where
-  by_name : {word : List ℕ} {at : ℕ} → RefusesWord text tokens start word at → IsUnsupported text Found Long tokens start word at
-  arrow : {at : ℕ} → RefusesArrow text Found Long tokens start at → IsUnsupported text Found Long tokens start (codes "=>") at
+  by_name : {word : List ℕ} {at : ℕ} → RefusesWord text tokens start word at
+      → IsUnsupported text Found Long tokens start word at
+  arrow : {at : ℕ} → RefusesArrow text Found Long tokens start at
+      → IsUnsupported text Found Long tokens start (codes "=>") at
 
 -- the tokens have this tree, and nothing is refused
 pub record IsAccepted {X : Type 0} (text : TextKind) (Found Long : X → Type 0) (tokens : List Token) (start : ℕ) (tree : X) : Type 0 where

@@ -14,7 +14,8 @@ use Rattle.prism_parser.specs.Refusals.{labels_of, IsAllowed, RefusesWord, Refus
 
 -- the token with this index was refused by its name, or memory ran out
 abbrev pub RefusesToken : {X : Type 0} → List Token → ℕ → Result X ParseFault → Type 0
-RefusesToken tokens index (Err (Unsupported word at)) = (token : Token) × (slice_get tokens index ≡ Some token) × (word_of token.kind ≡ word) × (token.from ≡ at)
+RefusesToken tokens index (Err (Unsupported word at)) =
+    (token : Token) × (slice_get tokens index ≡ Some token) × (word_of token.kind ≡ word) × (token.from ≡ at)
 RefusesToken tokens index (Err (OutOfMemory fault)) = Unit {0}
 RefusesToken tokens index _ = ⊥
 

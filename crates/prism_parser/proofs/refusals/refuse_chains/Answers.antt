@@ -1,7 +1,4 @@
-use Rattle.std.proofs.Common.{subst, sym, ap, ◌∙◌}
 use Rattle.prism_syntax.specs.Tokens.{kinds}
-use Rattle.prism_limits.specs.Places.{Finds}
-use Rattle.prism_limits.specs.Arrows.{IsLaterArrow}
 use Rattle.prism_parser.proofs.StepLemmas.{told_arrow, told_found}
 use Rattle.prism_parser.proofs.refusals.refuse_chains.Goals as goal
 
