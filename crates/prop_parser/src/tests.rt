@@ -3,88 +3,98 @@ use prism_lexer::tokens;
 use prism_parser::ParseFault;
 use prism_syntax::{Cmp, Expr, PathText, Property, Time, nodes};
 use std::alloc::{AllocError, Global};
-use std::test::Fail;
 
 mod deepest;
 mod faults;
 mod limits;
 mod trees;
 
+/// Appends words and a number.
+fn push(alloc: Global, out: &mut Vec<u8>, words: &str, number: u64) -> Result<(), AllocError> {
+    let digits = format!(in alloc; "{words}{number}")?;
+    out.extend_from_slice(digits.as_bytes())
+}
+
 fn comparison(cmp: Cmp) -> &'static str {
     match cmp {
-        Cmp::AtLeast => ">=",
-        Cmp::Above => ">",
-        Cmp::AtMost => "<=",
-        Cmp::Below => "<",
+        Cmp::AtLeast => "P>=",
+        Cmp::Above => "P>",
+        Cmp::AtMost => "P<=",
+        Cmp::Below => "P<",
     }
 }
 
-/// A time and the state formula after it, each expression by the number of its nodes.
-fn timed(alloc: Global, time: &Time, state: &Expr) -> Result<String, AllocError> {
+/// Appends a time and the state formula after it, each expression by the number of its nodes.
+fn push_timed(
+    alloc: Global,
+    out: &mut Vec<u8>,
+    time: &Time,
+    state: &Expr,
+) -> Result<(), AllocError> {
     match time {
         Time::Upto { strict, last } => {
             let sign = if *strict { "<" } else { "<=" };
-            let steps = nodes(last);
-            let size = nodes(state);
-            format!(in alloc; "{sign}{steps} {size}")
+            push(alloc, out, sign, nodes(last))?;
         }
     }
+    push(alloc, out, " ", nodes(state))
 }
 
-fn path(alloc: Global, tree: &PathText) -> Result<String, AllocError> {
+fn push_path(alloc: Global, out: &mut Vec<u8>, tree: &PathText) -> Result<(), AllocError> {
     match tree {
-        PathText::Next(state) => {
-            let size = nodes(state);
-            format!(in alloc; "X {size}")
-        }
+        PathText::Next(state) => push(alloc, out, "X ", nodes(state)),
         PathText::Finally(time, state) => {
-            let rest = timed(alloc, time, state)?;
-            format!(in alloc; "F{rest}")
+            out.push(b'F')?;
+            push_timed(alloc, out, time, state)
         }
         PathText::Globally(time, state) => {
-            let rest = timed(alloc, time, state)?;
-            format!(in alloc; "G{rest}")
+            out.push(b'G')?;
+            push_timed(alloc, out, time, state)
         }
         PathText::Until(first, time, second) => {
-            let size = nodes(first);
-            let rest = timed(alloc, time, second)?;
-            format!(in alloc; "{size} U{rest}")
+            push(alloc, out, "", nodes(first))?;
+            out.extend_from_slice(b" U")?;
+            push_timed(alloc, out, time, second)
         }
     }
 }
 
-/// A property, each expression by the number of its nodes.
-fn shown(alloc: Global, tree: &Property) -> Result<String, AllocError> {
-    let sign = comparison(tree.cmp);
-    let bound = nodes(&tree.bound);
-    let path = path(alloc, &tree.path)?;
-    format!(in alloc; "P{sign}{bound} [ {path} ]")
+/// Appends a property, each expression by the number of its nodes.
+fn push_tree(alloc: Global, out: &mut Vec<u8>, tree: &Property) -> Result<(), AllocError> {
+    push(alloc, out, comparison(tree.cmp), nodes(&tree.bound))?;
+    out.extend_from_slice(b" [ ")?;
+    push_path(alloc, out, &tree.path)?;
+    out.extend_from_slice(b" ]")
 }
 
-/// Why tokens are refused.
-fn refusal(alloc: Global, fault: &ParseFault) -> Result<String, AllocError> {
+/// Appends why tokens are refused.
+fn push_fault(alloc: Global, out: &mut Vec<u8>, fault: &ParseFault) -> Result<(), AllocError> {
     match fault {
         ParseFault::Unsupported { word, at } => {
-            let mut line = format!(in alloc; "unsupported ")?;
-            for byte in word.bytes() {
-                line.push(char::from(*byte))?;
-            }
-            let place = format!(in alloc; " at {at}")?;
-            line.push_str(place.as_str())?;
-            Ok(line)
+            out.extend_from_slice(b"unsupported ")?;
+            out.extend_from_slice(word.bytes())?;
+            push(alloc, out, " at ", u64::from(*at))
         }
-        _ => format!(in alloc; "{fault}"),
+        ParseFault::TooDeep { at } => push(alloc, out, "too deep at ", u64::from(*at)),
+        ParseFault::NotInGrammar { at } => {
+            push(alloc, out, "not in the grammar at ", u64::from(*at))
+        }
+        ParseFault::OutOfMemory(_) => out.extend_from_slice(b"out of memory"),
     }
 }
 
 /// What a text is as a property, or why it is refused.
-fn answer(alloc: Global, text: &[u8]) -> Result<String, Fail> {
+fn answer(alloc: Global, text: &[u8]) -> Result<Vec<u8>, AllocError> {
+    let mut out = Vec::new(alloc);
     if text.len() > 65_536 {
-        return Ok(format!(in alloc; "too long")?);
+        return Ok(out);
     }
-    let tokens = tokens(alloc, text)?;
-    match property(alloc, &tokens) {
-        Ok(tree) => Ok(shown(alloc, &tree)?),
-        Err(fault) => Ok(refusal(alloc, &fault)?),
+    match tokens(alloc, text) {
+        Ok(tokens) => match property(alloc, &tokens) {
+            Ok(tree) => push_tree(alloc, &mut out, &tree)?,
+            Err(fault) => push_fault(alloc, &mut out, &fault)?,
+        },
+        Err(_) => out.extend_from_slice(b"no tokens")?,
     }
+    Ok(out)
 }

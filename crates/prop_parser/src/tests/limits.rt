@@ -1,37 +1,51 @@
 //! Texts at the limits of nesting.
 
 use super::answer;
+use std::alloc::{AllocError, Global};
 use std::test::Fail;
+
+/// How texts begin, what is repeated in them and how often, how they end, and what is said of them.
+static NESTED: [(&str, &str, u32, &str, &str); 13] = [
+    ("P>=0.9 [ X ", "(", 65, "x", "too deep at 75"),
+    ("P>=0.9 [ X ", "(", 64, "x", "not in the grammar at 76"),
+    ("P>=0.9 [ X ", "!", 65, "x ]", "too deep at 75"),
+    ("P>=0.9 [ X ", "!", 64, "x ]", "P>=1 [ X 65 ]"),
+    ("P>=0.9 [ X ", "-", 65, "x ]", "too deep at 75"),
+    ("P>=0.9 [ X ", "-", 64, "x ]", "P>=1 [ X 65 ]"),
+    ("P>=0.9 [ X ", "x?x:", 1_025, "x ]", "too deep at 4108"),
+    ("P>=0.9 [ X ", "x?x:", 1_024, "x ]", "P>=1 [ X 3073 ]"),
+    ("P>=0.9 ", "[", 65, " ]", "not in the grammar at 8"),
+    // a word is refused first, and nesting before the grammar is asked
+    ("; ", "(", 65, "ctmc", "unsupported ctmc at 67"),
+    ("; ", "(", 65, "", "too deep at 66"),
+    // closed parentheses count below nothing, also in a rewards block
+    ("rewards ) endrewards ", "(", 65, "", "not in the grammar at 0"),
+    ("rewards ) endrewards ", "(", 66, "", "too deep at 86"),
+];
+
+/// A text of a part between two others, so many times.
+fn repeated(
+    alloc: Global,
+    before: &str,
+    part: &str,
+    times: u32,
+    after: &str,
+) -> Result<Vec<u8>, AllocError> {
+    let mut text = Vec::new(alloc);
+    text.extend_from_slice(before.as_bytes())?;
+    for _ in 0..times {
+        text.extend_from_slice(part.as_bytes())?;
+    }
+    text.extend_from_slice(after.as_bytes())?;
+    Ok(text)
+}
 
 #[test]
 fn nesting_is_refused_at_the_first_token_too_many(rt: HostRuntime) -> Result<(), Fail> {
-    let alloc = rt.alloc();
-    let cases: [(&[u8], &[u8], u32, &[u8], &str); 13] = [
-        (b"P>=0.9 [ X ", b"(", 65, b"x", "too deep at 75"),
-        (b"P>=0.9 [ X ", b"(", 64, b"x", "not in the grammar at 76"),
-        (b"P>=0.9 [ X ", b"!", 65, b"x ]", "too deep at 75"),
-        (b"P>=0.9 [ X ", b"!", 64, b"x ]", "P>=1 [ X 65 ]"),
-        (b"P>=0.9 [ X ", b"-", 65, b"x ]", "too deep at 75"),
-        (b"P>=0.9 [ X ", b"-", 64, b"x ]", "P>=1 [ X 65 ]"),
-        (b"P>=0.9 [ X ", b"x?x:", 1_025, b"x ]", "too deep at 4108"),
-        (b"P>=0.9 [ X ", b"x?x:", 1_024, b"x ]", "P>=1 [ X 3073 ]"),
-        (b"P>=0.9 ", b"[", 65, b" ]", "not in the grammar at 8"),
-        // a word is refused first, and nesting before the grammar is asked
-        (b"; ", b"(", 65, b"ctmc", "unsupported ctmc at 67"),
-        (b"; ", b"(", 65, b"", "too deep at 66"),
-        // closed parentheses count below nothing, also in a rewards block
-        (b"rewards ) endrewards ", b"(", 65, b"", "not in the grammar at 0"),
-        (b"rewards ) endrewards ", b"(", 66, b"", "too deep at 86"),
-    ];
-    for (before, part, times, after, want) in cases {
-        let mut text = Vec::new(alloc);
-        text.extend_from_slice(before)?;
-        for _ in 0..times {
-            text.extend_from_slice(part)?;
-        }
-        text.extend_from_slice(after)?;
-        let got = answer(alloc, text.as_slice())?;
-        assert_eq!(rt; got.as_str(), want, "{times} times {part:?}");
+    for (before, part, times, after, want) in NESTED.iter() {
+        let text = repeated(rt.alloc(), before, part, *times, after)?;
+        let got = answer(rt.alloc(), text.as_slice())?;
+        assert_eq!(rt; got.as_slice(), want.as_bytes(), "{times} times {part}");
     }
     Ok(())
 }
