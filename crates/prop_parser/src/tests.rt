@@ -1,8 +1,9 @@
 use super::*;
 use prism_lexer::tokens;
 use prism_parser::ParseFault;
-use prism_syntax::{Cmp, Expr, PathText, Property, Time, nodes};
+use prism_syntax::{Cmp, Expr, PathText, Property, Time, Token, nodes};
 use std::alloc::{AllocError, Global};
+use std::test::Fail;
 
 mod deepest;
 mod faults;
@@ -83,18 +84,20 @@ fn push_fault(alloc: Global, out: &mut Vec<u8>, fault: &ParseFault) -> Result<()
     }
 }
 
-/// What a text is as a property, or why it is refused.
-fn answer(alloc: Global, text: &[u8]) -> Result<Vec<u8>, AllocError> {
-    let mut out = Vec::new(alloc);
-    if text.len() > 65_536 {
-        return Ok(out);
+/// Appends what tokens are as a property, or why they are refused.
+fn push_answer(alloc: Global, out: &mut Vec<u8>, tokens: &[Token]) -> Result<(), AllocError> {
+    match property(alloc, tokens) {
+        Ok(tree) => push_tree(alloc, out, &tree),
+        Err(fault) => push_fault(alloc, out, &fault),
     }
-    match tokens(alloc, text) {
-        Ok(tokens) => match property(alloc, &tokens) {
-            Ok(tree) => push_tree(alloc, &mut out, &tree)?,
-            Err(fault) => push_fault(alloc, &mut out, &fault)?,
-        },
-        Err(_) => out.extend_from_slice(b"no tokens")?,
+}
+
+/// What a text is as a property, or why it is refused.
+fn answer(alloc: Global, text: &[u8]) -> Result<Vec<u8>, Fail> {
+    let mut out = Vec::new(alloc);
+    if text.len() < 65_536 {
+        let tokens = tokens(alloc, text)?;
+        push_answer(alloc, &mut out, &tokens)?;
     }
     Ok(out)
 }
