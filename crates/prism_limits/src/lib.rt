@@ -17,3 +17,6 @@ pub use laws::{arrow_law, one_first};
 pub use nesting::too_deep;
 pub use spellings::spelled;
 pub use words::refused_word;
+
+#[cfg(test)]
+mod tests;

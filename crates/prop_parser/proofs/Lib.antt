@@ -5,3 +5,4 @@ pub mod DefiniteLineLemmas
 pub mod WholeLemmas
 pub mod ArrowLineLemmas
 pub mod FormedLemmas
+pub mod BeginLemmas

@@ -3,12 +3,19 @@ ghost use Rattle.prism_syntax.specs.declared.labels.Labels.TheVariants.{Allowed}
 ghost use Rattle.prism_syntax.specs.declared.tokens.Kind.{Kind};
 ghost use Rattle.prism_syntax.specs.declared.properties.Property.{Property};
 ghost use Rattle.prism_syntax.specs.Properties.{IsProperty};
+ghost use Rattle.prism_reading.specs.Reach.{IsPrefix};
 ghost use Rattle.prism_limits.specs.Arrows.{IsLaterArrow};
+ghost use Rattle.prop_parser.specs.Begins.{BeginsProperty};
 ghost use Rattle.prop_parser.specs.Properties.{HasLongProperty};
 
 /// A list of tokens is a property with at most one tree.
 pub fn one_property()
     ensures { (tokens : List Kind) (x y : Property) → IsProperty tokens x → IsProperty tokens y → x ≡ y }
+{}
+
+/// Tokens begin a property exactly where they are a prefix of one.
+pub fn begins_property()
+    ensures { (tokens : List Kind) → BeginsProperty tokens ↔ IsPrefix IsProperty tokens }
 {}
 
 /// A property has a chain of two or more arrows exactly where its tokens have an arrow with another one of its chain

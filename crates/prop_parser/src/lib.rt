@@ -7,5 +7,8 @@ mod paths;
 mod properties;
 mod times;
 
-pub use laws::{one_property, property_arrow_law};
+pub use laws::{begins_property, one_property, property_arrow_law};
 pub use properties::property;
+
+#[cfg(test)]
+mod tests;
