@@ -1,0 +1,10 @@
+//! The plain meaning of a chain: values, choices and steps, computed from its trees.
+#![tactic(auto)]
+
+mod comparisons;
+mod labels;
+mod numbers;
+mod operators;
+mod values;
+
+pub use chain_model::{Choice, Taken};
