@@ -2,7 +2,6 @@
 
 ghost use Rattle.std.specs.Prelude.{◌≡◌};
 ghost use Rattle.chain_model.specs.declared.values.LabelValues.{LabelValues};
-ghost use Rattle.chain_model.specs.Choices.{no_labels};
 
 use chain_model::TraceFault;
 
@@ -23,6 +22,8 @@ pub trait BuiltInLabels {
 pub struct NoLabels;
 
 impl BuiltInLabels for NoLabels {
+    ghost use Rattle.chain_model.specs.Choices.{no_labels};
+
     ghost values = { λ _. no_labels };
 
     fn init(&self) -> bool {
