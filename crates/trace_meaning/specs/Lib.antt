@@ -1,1 +1,4 @@
+pub mod Gives
 pub mod Guards
+pub mod Groups
+pub mod Counted

@@ -19,7 +19,8 @@ fn all_parts(action: usize, modules: &[u32], state: &[i64], acts: &[Act]) -> boo
     ensures { result ≡ list_all (λ owner. some_enabled (is_part action owner) state.now acts.now) modules.now }
 {
     for owner in modules {
-        if !some_part(action, *owner, state, acts) {
+        let there = some_part(action, *owner, state, acts);
+        if !there {
             return false;
         }
     }
