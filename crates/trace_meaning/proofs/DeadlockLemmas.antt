@@ -118,7 +118,7 @@ empty-parts acts state enabled action (owner ∷ owners) any =
     let others : Bool = list_all (λ o. some_enabled (is_part action o) state acts) owners in
     empty-product (combinations (parts_of acts enabled action owners)) (filter (command_is (is_part action owner) acts) enabled)
     ∙ ap (λ b. b || is_empty (combinations (parts_of acts enabled action owners)))
-      (empty-filter (command_is (is_part action owner) acts) enabled ∙ ap not (any (is_part action owner)))
+    (empty-filter (command_is (is_part action owner) acts) enabled ∙ ap not (any (is_part action owner)))
     ∙ ap (λ b. not here || b) (empty-parts acts state enabled action owners any)
     ∙ not_both here others
 
@@ -131,7 +131,7 @@ empty-actions acts state enabled (action ∷ actions) any =
     let rest : List _ = flat_map (λ (a : ℕ × Action). action_choices acts enabled a.0 a.1.takes) actions in
     empty-append (action_choices acts enabled action.0 action.1.takes) rest
     ∙ ap (λ b. b && is_empty rest)
-      (empty-map (action_choice action.0) (combinations (parts_of acts enabled action.0 action.1.takes)) ∙ empty-parts acts state enabled action.0 action.1.takes any)
+    (empty-map (action_choice action.0) (combinations (parts_of acts enabled action.0 action.1.takes)) ∙ empty-parts acts state enabled action.0 action.1.takes any)
     ∙ ap (λ b. not (is_possible state acts action) && b) (empty-actions acts state enabled actions any)
     ∙ not_either (is_possible state acts action) (list_any (is_possible state acts) actions)
 
@@ -142,8 +142,8 @@ empty-choices chain state enabled any =
     let others : List _ = flat_map (λ (a : ℕ × Action). action_choices chain.commands enabled a.0 a.1.takes) (enumerate_from 0 chain.actions) in
     empty-append (map single_choice (filter (command_is is_unlabelled chain.commands) enabled)) others
     ∙ ap (λ b. b && is_empty others)
-      (empty-map single_choice (filter (command_is is_unlabelled chain.commands) enabled)
-      ∙ empty-filter (command_is is_unlabelled chain.commands) enabled ∙ ap not (any is_unlabelled))
+    (empty-map single_choice (filter (command_is is_unlabelled chain.commands) enabled)
+    ∙ empty-filter (command_is is_unlabelled chain.commands) enabled ∙ ap not (any is_unlabelled))
     ∙ ap (λ b. not (some_enabled is_unlabelled state chain.commands) && b) (empty-actions chain.commands state enabled (enumerate_from 0 chain.actions) any)
 
 deadlock_of : (chain : Chain) (state : State) (e : Result (List ℕ) TraceFault) (g : Result (Unit {0}) TraceFault) → Agree chain.commands state chain.commands e g

@@ -1,7 +1,7 @@
 -- Which group a choice is in, and that the groups make the choices of a state.
 use Rattle.std.proofs.Math.Seq.{drop-cons}
-use Rattle.std.proofs.Common.{◌≡◌, ℕ, zero, suc, ◌+◌, ◌-◌, ◌<◌, ◌≤◌, ◌^◌, List, [], ◌∷◌, ◌++◌, length, get_or, map, min, drop, refl, sym, ap, ◌∙◌, add-one, arith, length-append, append_assoc}
-use Rattle.std.specs.Prelude.{slice_get, flat_map, filter, Option, Some, None, option_map}
+use Rattle.std.proofs.Common.{◌≡◌, ℕ, suc, ◌+◌, ◌-◌, ◌<◌, ◌≤◌, ◌^◌, List, [], ◌∷◌, ◌++◌, length, get_or, map, min, drop, refl, sym, ap, ◌∙◌, add-one, arith, length-append, append_assoc}
+use Rattle.std.specs.Prelude.{slice_get, flat_map, filter, Option, Some, option_map}
 use Rattle.std.specs.List.{enumerate_from}
 use Rattle.std.proofs.lemmas.Grind.{flat_map-append}
 use Rattle.std.proofs.lemmas.List.{length-map}
@@ -10,7 +10,7 @@ use Rattle.chain_model.specs.declared.chain.Action.{Action}
 use Rattle.chain_model.specs.declared.chain.Act.{Act}
 use Rattle.chain_model.specs.declared.steps.Choice.{Choice}
 use Rattle.chain_model.specs.Chain.{is_unlabelled}
-use Rattle.chain_model.specs.Choices.{combinations, choices_among, command_is, parts_of, single_choice, action_choices}
+use Rattle.chain_model.specs.Choices.{combinations, choices_among, command_is, single_choice, action_choices}
 use Rattle.trace_meaning.specs.declared.groups.Group.{Group}
 use Rattle.trace_meaning.specs.Groups.{group_choices, single_group, action_group, groups_of}
 use Rattle.trace_meaning.proofs.CombinationLemmas.{get_front, get_back, get_mapped}
@@ -61,7 +61,7 @@ further groups i left many group whole lt is so counted more =
     record {
       there = omega (arith, exact, more, c.size, so.there);
       few = omega (arith, c.size, so.few);
-      same = sym (get_back (group_choices group) (flat_map group_choices (drop (i + 1) groups)) (left - many) left (omega (arith, exact, more))) ∙ sym (ap (λ ls. slice_get ls left) c.lists) ∙ so.same
+      same = sym (get_back (group_choices group) (flat_map group_choices (drop (i + 1) groups)) (left - many) left (omega (arith, exact, more))) ∙ sym (ap (λ ls. slice_get ls left) c.lists) ∙ so.same;
     }
 
 -- a command without an action is a group of one choice

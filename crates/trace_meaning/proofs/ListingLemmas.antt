@@ -1,5 +1,5 @@
 -- The list of a state's choices from its groups.
-use Rattle.std.proofs.Common.{◌≡◌, ℕ, zero, suc, ◌+◌, ◌<◌, ◌≤◌, ◌^◌, List, [], ◌∷◌, ◌++◌, length, map, min, take, true, false, Result, Ok, Err, Some, refl, sym, ap, ◌∙◌, add-one, arith, nat_lt}
+use Rattle.std.proofs.Common.{◌≡◌, ℕ, zero, suc, ◌+◌, ◌<◌, ◌≤◌, ◌^◌, List, [], ◌∷◌, ◌++◌, length, min, take, true, false, Result, Ok, Err, Some, refl, sym, ap, ◌∙◌, add-one, arith, nat_lt}
 use Rattle.std.specs.Prelude.{slice_get, flat_map}
 use Rattle.std.proofs.lemmas.Bool.Decides.{nat_tests}
 use Rattle.chain_model.specs.declared.outcome.TraceFault.{TraceFault}

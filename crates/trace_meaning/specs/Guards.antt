@@ -1,5 +1,5 @@
 -- Which commands are enabled, without the list of them.
-use Rattle.std.specs.Prelude.{ℕ, List, [], ◌∷◌, Bool, true, false, ◌&&◌, not, Result, Ok, Err}
+use Rattle.std.specs.Prelude.{ℕ, List, [], ◌∷◌, Bool, false, ◌&&◌, not, Result, Ok, Err}
 use Rattle.std.specs.List.{list_any, list_all, enumerate_from}
 use Rattle.chain_model.specs.declared.outcome.TraceFault.{TraceFault}
 use Rattle.chain_model.specs.declared.chain.Act.{Act}

@@ -26,7 +26,11 @@ pub fn count(lists: &[Items<u32>]) -> u64
 }
 
 /// The list of this number among those with one item of each of these.
-pub fn nth_combination(alloc: Global, lists: &[Items<u32>], number: u64) -> Result<Items<u32>, AllocError>
+pub fn nth_combination(
+    alloc: Global,
+    lists: &[Items<u32>],
+    number: u64,
+) -> Result<Items<u32>, AllocError>
     requires there { number < length (combinations lists.now) }
     requires few { length (combinations lists.now) ≤ 2 ^ 48 }
     ensures { IfOk result (λ list. slice_get (combinations lists.now) number ≡ Some list) }

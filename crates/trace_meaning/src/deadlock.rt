@@ -32,7 +32,12 @@ fn some_action(chain: &Chain, state: &[i64]) -> bool
     ensures { result ≡ list_any (is_possible state.now chain.now.commands) (enumerate_from 0 chain.now.actions) }
 {
     for (number, action) in chain.actions.as_slice().iter().enumerate() {
-        if all_parts(number, action.takes.as_slice(), state, chain.commands.as_slice()) {
+        if all_parts(
+            number,
+            action.takes.as_slice(),
+            state,
+            chain.commands.as_slice(),
+        ) {
             return true;
         }
     }

@@ -37,7 +37,13 @@ fn has_part(acts: &[Act], action: usize, owner: u32, number: u32) -> bool
 }
 
 /// The enabled commands of a module with an action.
-fn part(alloc: Global, acts: &[Act], enabled: &[u32], action: usize, owner: u32) -> Result<Items<u32>, AllocError>
+fn part(
+    alloc: Global,
+    acts: &[Act],
+    enabled: &[u32],
+    action: usize,
+    owner: u32,
+) -> Result<Items<u32>, AllocError>
     ensures { IfOk result (λ numbers. numbers ≡ filter (command_is (is_part action owner) acts.now) enabled.now) }
 {
     let mut numbers = Items::new(alloc);
@@ -53,7 +59,13 @@ fn part(alloc: Global, acts: &[Act], enabled: &[u32], action: usize, owner: u32)
 }
 
 /// The enabled commands with an action, by the modules that take part.
-fn parts(alloc: Global, acts: &[Act], enabled: &[u32], action: usize, modules: &[u32]) -> Result<Items<Items<u32>>, AllocError>
+fn parts(
+    alloc: Global,
+    acts: &[Act],
+    enabled: &[u32],
+    action: usize,
+    modules: &[u32],
+) -> Result<Items<Items<u32>>, AllocError>
     ensures { IfOk result (λ lists. lists ≡ parts_of acts.now enabled.now action modules.now) }
 {
     let mut lists = Items::new(alloc);
@@ -105,10 +117,22 @@ fn single_groups(alloc: Global, acts: &[Act], enabled: &[u32]) -> Result<Items<G
 }
 
 /// The group of an action.
-fn action_group(alloc: Global, acts: &[Act], enabled: &[u32], number: u32, action: &Action) -> Result<Group, AllocError>
+fn action_group(
+    alloc: Global,
+    acts: &[Act],
+    enabled: &[u32],
+    number: u32,
+    action: &Action,
+) -> Result<Group, AllocError>
     ensures { IfOk result (λ group. group ≡ action_group acts.now enabled.now (number, action.now)) }
 {
-    match parts(alloc, acts, enabled, number as usize, action.takes.as_slice()) {
+    match parts(
+        alloc,
+        acts,
+        enabled,
+        number as usize,
+        action.takes.as_slice(),
+    ) {
         Ok(parts) => Ok(Group {
             action: Some(number),
             parts,

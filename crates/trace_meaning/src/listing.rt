@@ -11,7 +11,12 @@ use sqlite_items::Items;
 use std::alloc::{AllocError, Global};
 
 /// The number of a state's choices, and the first of them, up to so many.
-pub fn choices(alloc: Global, chain: &Chain, state: &[i64], most: u32) -> Result<(u64, Items<Choice>), StepFault>
+pub fn choices(
+    alloc: Global,
+    chain: &Chain,
+    state: &[i64],
+    most: u32,
+) -> Result<(u64, Items<Choice>), StepFault>
     requires { length chain.now.actions < 2 ^ 32 }
     ensures { Gives result (counted_choices chain.now state.now most) }
 {

@@ -9,7 +9,11 @@ use chain_model::{Form, Func, Op, Sort, TraceFault, Typed, Value};
 
 /// The value of an expression in a state, where the built-in labels say this.
 #[cycle(values)]
-pub fn value_with<L: BuiltInLabels>(labels: &L, state: &[i64], expr: &Typed) -> Result<Value, TraceFault>
+pub fn value_with<L: BuiltInLabels>(
+    labels: &L,
+    state: &[i64],
+    expr: &Typed,
+) -> Result<Value, TraceFault>
     ensures { result ≡ value_with (L.values labels.now) state.now expr.now }
 {
     match &expr.form {
@@ -24,7 +28,12 @@ pub fn value_with<L: BuiltInLabels>(labels: &L, state: &[i64], expr: &Typed) -> 
             let value = value_with(labels, state, operand.get())?;
             opposite(value)
         }
-        Form::Level(operands, operators) => level(labels, state, operands.as_slice(), operators.as_slice()),
+        Form::Level(operands, operators) => level(
+            labels,
+            state,
+            operands.as_slice(),
+            operators.as_slice(),
+        ),
         Form::If(condition, first, second) => {
             let value = value_with(labels, state, condition.get())?;
             if truth(&value) {
@@ -40,7 +49,12 @@ pub fn value_with<L: BuiltInLabels>(labels: &L, state: &[i64], expr: &Typed) -> 
 
 /// The value of a chain, folded from the left.
 #[cycle(values)]
-fn level<L: BuiltInLabels>(labels: &L, state: &[i64], operands: &[Typed], operators: &[Op]) -> Result<Value, TraceFault>
+fn level<L: BuiltInLabels>(
+    labels: &L,
+    state: &[i64],
+    operands: &[Typed],
+    operators: &[Op],
+) -> Result<Value, TraceFault>
     ensures { result ≡ level_value (map (value_with (L.values labels.now) state.now) operands.now) operators.now }
 {
     let [first, ..] = operands else {
@@ -63,7 +77,13 @@ fn level<L: BuiltInLabels>(labels: &L, state: &[i64], operands: &[Typed], operat
 
 /// A value joined to the next part of its chain, which is read only where the value alone does not say.
 #[cycle(values)]
-fn join<L: BuiltInLabels>(labels: &L, state: &[i64], operator: Op, value: Value, operand: &Typed) -> Result<Value, TraceFault>
+fn join<L: BuiltInLabels>(
+    labels: &L,
+    state: &[i64],
+    operator: Op,
+    value: Value,
+    operand: &Typed,
+) -> Result<Value, TraceFault>
     ensures { result ≡ join operator value (value_with (L.values labels.now) state.now operand.now) }
 {
     match left_result(operator, &value) {
@@ -77,7 +97,12 @@ fn join<L: BuiltInLabels>(labels: &L, state: &[i64], operator: Op, value: Value,
 
 /// The value of a call.
 #[cycle(values)]
-fn call<L: BuiltInLabels>(labels: &L, state: &[i64], func: Func, parts: &[Typed]) -> Result<Value, TraceFault>
+fn call<L: BuiltInLabels>(
+    labels: &L,
+    state: &[i64],
+    func: Func,
+    parts: &[Typed],
+) -> Result<Value, TraceFault>
     ensures { result ≡ call_value func (map (value_with (L.values labels.now) state.now) parts.now) }
 {
     let [first, ..] = parts else {
@@ -91,7 +116,13 @@ fn call<L: BuiltInLabels>(labels: &L, state: &[i64], func: Func, parts: &[Typed]
 
 /// The value of a function of its first part's value and the further parts.
 #[cycle(values)]
-fn function<L: BuiltInLabels>(labels: &L, state: &[i64], func: Func, value: Value, parts: &[Typed]) -> Result<Value, TraceFault>
+fn function<L: BuiltInLabels>(
+    labels: &L,
+    state: &[i64],
+    func: Func,
+    value: Value,
+    parts: &[Typed],
+) -> Result<Value, TraceFault>
     ensures { result ≡ function_value func value (map (value_with (L.values labels.now) state.now) (drop 1 parts.now)) }
 {
     match func {
@@ -104,14 +135,23 @@ fn function<L: BuiltInLabels>(labels: &L, state: &[i64], func: Func, value: Valu
                 return Ok(Value::Bool(false));
             };
             let second = value_with(labels, state, part)?;
-            if func == Func::Pow { power(value, second) } else { remainder(value, second) }
+            if func == Func::Pow {
+                power(value, second)
+            } else {
+                remainder(value, second)
+            }
         }
     }
 }
 
 /// The least of a value and the parts after the first.
 #[cycle(values)]
-fn least<L: BuiltInLabels>(labels: &L, state: &[i64], first: Value, parts: &[Typed]) -> Result<Value, TraceFault>
+fn least<L: BuiltInLabels>(
+    labels: &L,
+    state: &[i64],
+    first: Value,
+    parts: &[Typed],
+) -> Result<Value, TraceFault>
     ensures { result ≡ extreme_value lesser first (map (value_with (L.values labels.now) state.now) (drop 1 parts.now)) }
 {
     let mut value = first;
@@ -126,7 +166,12 @@ fn least<L: BuiltInLabels>(labels: &L, state: &[i64], first: Value, parts: &[Typ
 
 /// The greatest of a value and the parts after the first.
 #[cycle(values)]
-fn greatest<L: BuiltInLabels>(labels: &L, state: &[i64], first: Value, parts: &[Typed]) -> Result<Value, TraceFault>
+fn greatest<L: BuiltInLabels>(
+    labels: &L,
+    state: &[i64],
+    first: Value,
+    parts: &[Typed],
+) -> Result<Value, TraceFault>
     ensures { result ≡ extreme_value greater first (map (value_with (L.values labels.now) state.now) (drop 1 parts.now)) }
 {
     let mut value = first;

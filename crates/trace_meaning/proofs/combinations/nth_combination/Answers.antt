@@ -16,7 +16,7 @@ nonzero_rem-left c =
 pub bounds-as_slice-left : goal.bounds-as_slice-left
 bounds-as_slice-left c =
     let there = digit_there c.args.lists.now c.loop-place.place c.loop-place.left c.count-below.result c.index-lists-place.result c.loop-place.chosen _ c.loop-place-test.true c.index-lists-place.is c.loop-place.invariant
-      (c.count-below.ensures ∙ ap (λ ls. min (length (combinations ls)) (2 ^ 48 + 1)) c.split_at.ensures.back) in
+    (c.count-below.ensures ∙ ap (λ ls. min (length (combinations ls)) (2 ^ 48 + 1)) c.split_at.ensures.back) in
     subst (λ ls. c.loop-place.left / c.count-below.result < length ls) (sym c.as_slice.ensures) there.1
 
 pub loop-place-preserved : goal.loop-place-preserved

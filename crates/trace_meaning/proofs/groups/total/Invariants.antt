@@ -7,5 +7,5 @@ use Rattle.trace_meaning.proofs.groups.total.Given as goal
 abbrev pub invariant-loop-group : goal.invariant-loop-group
 invariant-loop-group l = record {
   same : min (l.total + length (flat_map group_choices (drop l.group-index l.groups))) (2 ^ 48 + 1) ≡ min (length (flat_map group_choices l.groups)) (2 ^ 48 + 1);
-  small : l.total ≤ 2 ^ 48 + 1
+  small : l.total ≤ 2 ^ 48 + 1;
 }
