@@ -1,0 +1,85 @@
+-- The list of a state's choices from its groups.
+use Rattle.std.proofs.Common.{◌≡◌, ℕ, zero, suc, ◌+◌, ◌<◌, ◌≤◌, ◌^◌, List, [], ◌∷◌, ◌++◌, length, min, take, true, false, Result, Ok, Err, Some, refl, sym, ap, ◌∙◌, add-one, arith, nat_lt}
+use Rattle.std.specs.Prelude.{slice_get, flat_map}
+use Rattle.std.proofs.lemmas.Bool.Decides.{nat_tests}
+use Rattle.chain_model.specs.declared.outcome.TraceFault.{TraceFault}
+use Rattle.chain_model.specs.declared.outcome.TraceFault.TheVariants.{Choices}
+use Rattle.chain_model.specs.declared.chain.Chain.{Chain}
+use Rattle.chain_model.specs.declared.steps.Choice.{Choice}
+use Rattle.chain_model.specs.Results.{◌>>=◌, ◌>>◌, refuse_if}
+use Rattle.chain_model.specs.States.{State}
+use Rattle.chain_model.specs.Choices.{choices_among, choices_of, enabled_from}
+use Rattle.trace_meaning.specs.declared.groups.Group.{Group}
+use Rattle.trace_meaning.specs.Groups.{group_choices, groups_of}
+use Rattle.trace_meaning.specs.declared.fault.StepFault.{StepFault}
+use Rattle.trace_meaning.specs.declared.fault.StepFault.TheVariants.{Trace, OutOfMemory}
+use Rattle.trace_meaning.specs.Gives.{Gives}
+use Rattle.trace_meaning.specs.Counted.{counted_choices}
+use Rattle.trace_meaning.proofs.GroupLemmas.{groups_choices}
+
+taken_next : {A : Type 0} (xs : List A) (k : ℕ) (x : A) → slice_get xs k ≡ Some x → take (suc k) xs ≡ take k xs ++ (x ∷ [])
+taken_next [] k x is = absurd (cc)
+taken_next (y ∷ ys) zero x is = let same : y ≡ x = cc in ap (λ z. z ∷ []) same
+taken_next (y ∷ ys) (suc k) x is = ap (λ zs. y ∷ zs) (taken_next ys k x is)
+
+-- one choice more is listed
+pub listed_next : (xs : List Choice) (k : ℕ) (choice : Choice) (list new : List Choice) → slice_get xs k ≡ Some choice → new ≡ list ++ (choice ∷ [])
+    → list ≡ take k xs → new ≡ take (k + 1) xs
+listed_next xs k choice list new is more so =
+    let next : take (k + 1) xs ≡ take (suc k) xs = ap (λ n. take n xs) (add-one k) in
+    more ∙ ap (λ ls. ls ++ (choice ∷ [])) so ∙ sym (taken_next xs k choice is) ∙ sym next
+
+-- what is counted of a list of choices
+counted_in : List Choice → ℕ → Result (ℕ × List Choice) TraceFault
+counted_in choices most = refuse_if (nat_lt (2 ^ 48) (length choices)) Choices >> Ok (length choices, take most choices)
+
+counted_is : (chain : Chain) (state : State) (most : ℕ) (enabled : List ℕ) → enabled_from 0 state chain.commands ≡ Ok enabled
+    → counted_choices chain state most ≡ counted_in (flat_map group_choices (groups_of chain enabled)) most
+unfolding counted_in choices_of
+counted_is chain state most enabled is =
+    ap (λ (r : Result (List ℕ) TraceFault). (r >>= λ e. Ok (choices_among chain e)) >>= λ choices. refuse_if (nat_lt (2 ^ 48) (length choices)) Choices >> Ok (length choices, take most choices)) is
+    ∙ ap (λ choices. counted_in choices most) (sym (groups_choices chain enabled))
+
+refused : (xs : List Choice) (most : ℕ) → 2 ^ 48 < length xs → counted_in xs most ≡ Err Choices
+unfolding counted_in
+refused xs most many = let test : nat_lt (2 ^ 48) (length xs) ≡ true = grind (arith, nat_tests) in ap (λ b. refuse_if b Choices >> Ok (length xs, take most xs)) test
+
+allowed : (xs : List Choice) (most : ℕ) → length xs ≤ 2 ^ 48 → counted_in xs most ≡ Ok (length xs, take most xs)
+unfolding counted_in
+allowed xs most few = let test : nat_lt (2 ^ 48) (length xs) ≡ false = grind (arith, nat_tests) in ap (λ b. refuse_if b Choices >> Ok (length xs, take most xs)) test
+
+taken_less : {A : Type 0} (xs : List A) (n : ℕ) → take (min (length xs) n) xs ≡ take n xs
+taken_less [] zero = refl
+taken_less {A} [] (suc n) = let none : min 0 (suc n) ≡ 0 = omega arith in ap (λ k. take {A = A} k []) none
+taken_less (x ∷ xs) zero = let none : min (suc (length xs)) 0 ≡ 0 = omega arith in ap (λ k. take k (x ∷ xs)) none
+taken_less (x ∷ xs) (suc n) = let one : min (suc (length xs)) (suc n) ≡ suc (min (length xs) n) = omega arith in ap (λ k. take k (x ∷ xs)) one ∙ ap (λ zs. x ∷ zs) (taken_less xs n)
+
+-- too many choices are a fault
+pub counted_many : (chain : Chain) (state : State) (most count : ℕ) (enabled : List ℕ) (groups : List Group) → enabled_from 0 state chain.commands ≡ Ok enabled → groups ≡ groups_of chain enabled
+    → count ≡ min (length (flat_map group_choices groups)) (2 ^ 48 + 1) → 2 ^ 48 < count → counted_choices chain state most ≡ Err Choices
+counted_many chain state most count enabled groups is made counts many =
+    let size = ap (λ w. length (flat_map group_choices w)) made in
+    counted_is chain state most enabled is ∙ refused (flat_map group_choices (groups_of chain enabled)) most (omega (arith, counts, size, many))
+
+-- others are counted and listed
+pub counted_few : (chain : Chain) (state : State) (most count shown : ℕ) (enabled : List ℕ) (groups : List Group) (list : List Choice) → enabled_from 0 state chain.commands ≡ Ok enabled → groups ≡ groups_of chain enabled
+    → count ≡ min (length (flat_map group_choices groups)) (2 ^ 48 + 1) → count ≤ 2 ^ 48 → shown ≡ min count most → list ≡ take shown (flat_map group_choices groups) → counted_choices chain state most ≡ Ok (count, list)
+counted_few chain state most count shown enabled groups list is made counts few shows lists =
+    let size = ap (λ w. length (flat_map group_choices w)) made in
+    let exact : count ≡ length (flat_map group_choices (groups_of chain enabled)) = omega (arith, counts, size, few) in
+    let xs : List Choice = flat_map group_choices (groups_of chain enabled) in
+    counted_is chain state most enabled is ∙ allowed xs most (omega (arith, exact, few))
+    ∙ ap (λ n. Ok (n, take most xs)) (sym exact)
+    ∙ ap (λ ls. Ok (count, ls)) (sym (taken_less xs most) ∙ ap (λ n. take (min n most) xs) (sym exact) ∙ ap (λ n. take n xs) (sym shows) ∙ ap (λ w. take shown (flat_map group_choices w)) (sym made) ∙ sym lists)
+
+-- a fault of the guards is that of the whole
+pub counted_fault : (chain : Chain) (state : State) (most : ℕ) (fault : TraceFault) → enabled_from 0 state chain.commands ≡ Err fault → counted_choices chain state most ≡ Err fault
+unfolding choices_of
+counted_fault chain state most fault is =
+    ap (λ (r : Result (List ℕ) TraceFault). (r >>= λ e. Ok (choices_among chain e)) >>= λ choices. refuse_if (nat_lt (2 ^ 48) (length choices)) Choices >> Ok (length choices, take most choices)) is
+
+-- and so is want of memory
+pub counted_err : (chain : Chain) (state : State) (most : ℕ) (fault : StepFault) → Gives {X = List ℕ} (Err fault) (enabled_from 0 state chain.commands)
+    → Gives {X = ℕ × List Choice} (Err fault) (counted_choices chain state most)
+counted_err chain state most (Trace fault) is = counted_fault chain state most fault is
+counted_err chain state most (OutOfMemory error) is = tt

@@ -1,0 +1,4 @@
+pub mod Gives
+pub mod Guards
+pub mod Groups
+pub mod Counted
