@@ -2,7 +2,10 @@ pub mod ValueLemmas
 pub mod InitialLemmas
 pub mod GuardLemmas
 pub mod DeadlockLemmas
-pub mod EnabledLemmas
+pub mod ResultLemmas
 pub mod CombinationLemmas
 pub mod GroupLemmas
 pub mod ListingLemmas
+pub mod ActionLemmas
+pub mod WeightLemmas
+pub mod AssignmentLemmas

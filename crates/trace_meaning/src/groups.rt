@@ -142,8 +142,8 @@ fn action_group(
 }
 
 /// The groups of choices of the enabled commands.
+#[tactic(auto, using(crate::proofs::ActionLemmas::actions_few))]
 pub fn groups(alloc: Global, chain: &Chain, enabled: &[u32]) -> Result<Items<Group>, AllocError>
-    requires { length chain.now.actions < 2 ^ 32 }
     ensures { IfOk result (λ groups. groups ≡ groups_of chain.now enabled.now) }
 {
     let acts = chain.commands.as_slice();

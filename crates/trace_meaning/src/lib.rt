@@ -1,6 +1,8 @@
-//! The plain meaning of a chain: values and choices, computed from its trees.
+//! The plain meaning of a chain: values, choices and steps, computed from its trees.
 #![tactic(auto)]
 
+mod assignments;
+mod branches;
 mod combinations;
 mod comparisons;
 mod deadlock;
@@ -12,9 +14,12 @@ mod labels;
 mod listing;
 mod numbers;
 mod operators;
+mod step;
 mod values;
+mod weights;
 
 pub use chain_model::{Choice, Taken};
 pub use deadlock::eval;
 pub use fault::StepFault;
 pub use listing::choices;
+pub use step::plain_step;

@@ -1,5 +1,5 @@
-ghost use Rattle.std.specs.Prelude.{◌≡◌, ◌<◌, ◌≤◌, ◌^◌, length, take, flat_map, IfOk};
-ghost use Rattle.trace_meaning.specs.Counted.{counted_choices};
+ghost use Rattle.std.specs.Prelude.{◌≡◌, ◌≤◌, ◌^◌, length, take, flat_map, IfOk};
+ghost use Rattle.trace_meaning.specs.Counted.{limited_choices, counted_choices, choices_in};
 ghost use Rattle.trace_meaning.specs.Gives.{Gives};
 ghost use Rattle.trace_meaning.specs.Groups.{group_choices};
 
@@ -10,15 +10,15 @@ use chain_model::{Chain, Choice, TraceFault};
 use sqlite_items::Items;
 use std::alloc::{AllocError, Global};
 
-/// The number of a state's choices, and the first of them, up to so many.
-pub fn choices(
+/// The number of a state's choices, and their groups.
+pub fn counted_groups(
     alloc: Global,
     chain: &Chain,
     state: &[i64],
-    most: u32,
-) -> Result<(u64, Items<Choice>), StepFault>
-    requires { length chain.now.actions < 2 ^ 32 }
-    ensures { Gives result (counted_choices chain.now state.now most) }
+) -> Result<(u64, Items<Group>), StepFault>
+    ensures choices { Gives (choices_in result) (limited_choices chain.now state.now) }
+    ensures count { IfOk result (λ counted. counted.0 ≡ length (flat_map group_choices counted.1)) }
+    ensures few { IfOk result (λ counted. length (flat_map group_choices counted.1) ≤ 2 ^ 48) }
 {
     let enabled = match enabled(alloc, state, chain.commands.as_slice()) {
         Ok(enabled) => enabled,
@@ -32,6 +32,22 @@ pub fn choices(
     if count > 1 << 48 {
         return Err(StepFault::Trace(TraceFault::Choices));
     }
+    Ok((count, groups))
+}
+
+/// The number of a state's choices, and the first of them, up to so many.
+pub fn choices(
+    alloc: Global,
+    chain: &Chain,
+    state: &[i64],
+    most: u32,
+) -> Result<(u64, Items<Choice>), StepFault>
+    ensures { Gives result (counted_choices chain.now state.now most) }
+{
+    let (count, groups) = match counted_groups(alloc, chain, state) {
+        Ok(counted) => counted,
+        Err(fault) => return Err(fault),
+    };
     match first(alloc, groups.as_slice(), count.min(u64::from(most))) {
         Ok(list) => Ok((count, list)),
         Err(error) => Err(StepFault::OutOfMemory(error)),

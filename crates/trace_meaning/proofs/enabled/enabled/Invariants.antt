@@ -1,6 +1,6 @@
 use Rattle.std.proofs.Common.{◌≡◌, drop}
 use Rattle.chain_model.specs.Choices.{enabled_from}
-use Rattle.trace_meaning.proofs.EnabledLemmas.{prepend}
+use Rattle.trace_meaning.proofs.ResultLemmas.{prepend}
 use Rattle.trace_meaning.proofs.enabled.enabled.Given as goal
 
 -- the commands so far, and those among the others
