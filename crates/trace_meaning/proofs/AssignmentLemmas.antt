@@ -34,12 +34,12 @@ assigned_at chain state copy sets i set made lt is so =
     ∙ assigned-cons chain state copy set (drop (i + 1) sets)
     ∙ ap (λ (r : Result (ℕ × ℤ) TraceFault). r >>= λ one. assigned_to chain state (slice_set copy one.0 one.1) (drop (i + 1) sets)) so
 
-bind_assoc : {A B C : Type 0} (r : Result A TraceFault) (f : A → Result B TraceFault) (g : B → Result C TraceFault)
+pub bind_assoc : {A B C : Type 0} (r : Result A TraceFault) (f : A → Result B TraceFault) (g : B → Result C TraceFault)
     → (r >>= λ x. f x >>= g) ≡ ((r >>= f) >>= g)
 bind_assoc (Ok x) f g = refl
 bind_assoc (Err fault) f g = refl
 
-bind_same : {A B : Type 0} (r : Result A TraceFault) (f g : A → Result B TraceFault) → ((x : A) → f x ≡ g x) → (r >>= f) ≡ (r >>= g)
+pub bind_same : {A B : Type 0} (r : Result A TraceFault) (f g : A → Result B TraceFault) → ((x : A) → f x ≡ g x) → (r >>= f) ≡ (r >>= g)
 bind_same (Ok x) f g same = same x
 bind_same (Err fault) f g same = refl
 

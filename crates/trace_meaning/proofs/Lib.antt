@@ -9,3 +9,5 @@ pub mod ListingLemmas
 pub mod ActionLemmas
 pub mod WeightLemmas
 pub mod AssignmentLemmas
+pub mod BranchLemmas
+pub mod StepLemmas

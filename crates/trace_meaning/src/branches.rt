@@ -32,6 +32,7 @@ fn drawn_branch(weights: &[Frac], den: u64, draws: &mut Draws) -> usize
     requires few { den ≤ 2 ^ 48 }
     requires place { draws.old.place < 2 ^ 62 }
     ensures value { result ≡ branch_number (draw_at draws.old.seed draws.old.trace) draws.old.place weights.now }
+    ensures within { result ≤ length weights.now }
     ensures moves { draws.new ≡ record draws.old { place = draws.old.place + draws_for (length weights.now) } }
 {
     if 2 <= weights.len() {
@@ -58,8 +59,9 @@ pub fn branch(
         Ok(weights) => weights,
         Err(fault) => return Err(fault),
     };
-    let Some(den) = denominator(weights.as_slice()) else {
-        return Err(StepFault::Trace(TraceFault::Denominator { command }));
+    let den = match denominator(weights.as_slice()) {
+        Some(den) => den,
+        None => return Err(StepFault::Trace(TraceFault::Denominator { command })),
     };
     if !add_up(weights.as_slice(), den) {
         return Err(StepFault::Trace(TraceFault::Weights { command }));

@@ -1,6 +1,6 @@
 //! The weights of a command's branches, and how a number picks one of them.
 
-ghost use Rattle.std.specs.Prelude.{◌≡◌, ◌==◌, ◌*◌, ◌/◌, ◌<◌, ◌≤◌, ◌^◌, All, IfOk, IfSome, SomeIff, sum, unsigned_abs};
+ghost use Rattle.std.specs.Prelude.{◌≡◌, ◌==◌, ◌*◌, ◌/◌, ◌<◌, ◌≤◌, ◌^◌, All, IfOk, IfSome, SomeIff, length, sum, unsigned_abs};
 ghost use Rattle.smc_num.specs.Gcd.{lcm_of};
 ghost use Rattle.chain_model.specs.Step.{as_weight, weights_of, denominator_of, first_above, running_sums};
 ghost use Rattle.trace_meaning.specs.Gives.{Gives};
@@ -82,20 +82,27 @@ fn multiple(a: u64, b: u64) -> Option<u64>
     limited_product(a, b / gcd(a, b))
 }
 
+/// The denominator of a fraction.
+fn den(number: Frac) -> u64
+    ensures { result ≡ number.den }
+{
+    number.den() as u64
+}
+
 /// The least common denominator of weights, where it is at most 2^48.
 pub fn denominator(weights: &[Frac]) -> Option<u64>
     requires { All IsWeight weights.now }
     ensures value { SomeIff result (denominator_of weights.now ≤ 2 ^ 48) (denominator_of weights.now) }
     ensures some { IfSome result (λ den. 0 < den) }
 {
-    let mut den: u64 = 1;
+    let mut common: u64 = 1;
     for weight in weights {
-        den = match multiple(den, weight.den() as u64) {
+        common = match multiple(common, den(*weight)) {
             Some(next) => next,
             None => return None,
         };
     }
-    Some(den)
+    Some(common)
 }
 
 /// The numerator of a weight over a denominator.
@@ -105,7 +112,7 @@ fn numerator(weight: Frac, den: u64) -> u64
     ensures value { result ≡ unsigned_abs weight.num * (den / weight.den) }
     ensures most { result ≤ den }
 {
-    weight.num().unsigned_abs() * (den / weight.den() as u64)
+    weight.num().unsigned_abs() * (den / self::den(weight))
 }
 
 /// Whether the numerators of weights over a denominator add up to it.
@@ -129,7 +136,8 @@ pub fn index_above(weights: &[Frac], den: u64, picked: u64) -> usize
     requires weights { All IsWeight weights.now }
     requires few { den ≤ 2 ^ 48 }
     requires picked { picked < den }
-    ensures { result ≡ first_above picked (running_sums 0 (numerators_over den weights.now)) }
+    ensures value { result ≡ first_above picked (running_sums 0 (numerators_over den weights.now)) }
+    ensures within { result ≤ length weights.now }
 {
     let mut sum: u64 = 0;
     for (index, weight) in weights.iter().enumerate() {
