@@ -73,13 +73,13 @@ unfolding step_of after_choice
 step_is chain draw state position =
     by_choices (choices_of chain state) _ (λ choices. (choice_of draw position choices, position + draws_for (length choices))) (after_choice chain draw state)
     (λ choices.
-      let choice : Choice = choice_of draw position choices in
-      bind_same (branches_of chain draw state (position + draws_for (length choices)) choice.commands) _ _
-      (λ branches.
-        ap (λ (p : ℕ). each (assignment_of chain state) (all_sets chain choice.commands branches) >>= λ assigned. Ok (record { state = after_assignments state assigned; position = p }, record { choice = choice; branches = branches }))
-        (sym (add_assoc position (draws_for (length choices)) (sum (map (command_draws chain) choice.commands))))
-        ∙ bind_assoc (each (assignment_of chain state) (all_sets chain choice.commands branches)) (λ assigned. Ok (after_assignments state assigned))
-        (λ next. Ok (record { state = next; position = (position + draws_for (length choices)) + sum (map (command_draws chain) choice.commands) }, record { choice = choice; branches = branches }))))
+    let choice : Choice = choice_of draw position choices in
+    bind_same (branches_of chain draw state (position + draws_for (length choices)) choice.commands) _ _
+    (λ branches.
+    ap (λ (p : ℕ). each (assignment_of chain state) (all_sets chain choice.commands branches) >>= λ assigned. Ok (record { state = after_assignments state assigned; position = p }, record { choice = choice; branches = branches }))
+    (sym (add_assoc position (draws_for (length choices)) (sum (map (command_draws chain) choice.commands))))
+    ∙ bind_assoc (each (assignment_of chain state) (all_sets chain choice.commands branches)) (λ assigned. Ok (after_assignments state assigned))
+    (λ next. Ok (record { state = next; position = (position + draws_for (length choices)) + sum (map (command_draws chain) choice.commands) }, record { choice = choice; branches = branches }))))
 
 -- a choice that faults is the step's fault
 pub choice_err : (chain : Chain) (draw : ℕ → ℕ) (state : State) (position stop : ℕ) (fault : StepFault)

@@ -93,7 +93,12 @@ pub fn assign_all(
 {
     for (index, command) in commands.iter().enumerate() {
         if index < branches.len() {
-            match assign(chain, state, sets_of(chain, *command, branches[index]), copy) {
+            match assign(
+                chain,
+                state,
+                sets_of(chain, *command, branches[index]),
+                copy,
+            ) {
                 Ok(()) => {}
                 Err(fault) => return Err(fault),
             }

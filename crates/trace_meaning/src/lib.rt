@@ -23,3 +23,10 @@ pub use deadlock::eval;
 pub use fault::StepFault;
 pub use listing::choices;
 pub use step::plain_step;
+
+#[cfg(test)]
+mod fixtures;
+#[cfg(test)]
+mod step_tests;
+#[cfg(test)]
+mod value_tests;

@@ -34,7 +34,7 @@ overflow_cast-result c =
       c.drawn_branch.ensures.within,
       ap (λ (ws : List Fraction). length ws) c.as_slice-3.ensures,
       weights_long c.args.state.now c.args.command (arms_of c.args.chain.now c.args.command) c.in-Ok.weights
-      (ap (weights_of c.args.state.now c.args.command) (sym c.arms_of.ensures) ∙ c.in-Ok.ensures.value),
+          (ap (weights_of c.args.state.now c.args.command) (sym c.arms_of.ensures) ∙ c.in-Ok.ensures.value),
       arms_few c.args.chain.now c.args.command,
     )
 

@@ -9,9 +9,9 @@ use Rattle.trace_meaning.proofs.branches.branches.Given as goal
 abbrev pub invariant-loop-command : goal.invariant-loop-command
 invariant-loop-command l = record {
   same : prepend l.branches (branches_of l.chain (draw_at l.fn.draws.seed l.fn.draws.trace) l.state l.draws.place (drop l.command-index l.commands))
-    ≡ branches_of l.chain (draw_at l.fn.draws.seed l.fn.draws.trace) l.state l.fn.draws.place l.commands;
+      ≡ branches_of l.chain (draw_at l.fn.draws.seed l.fn.draws.trace) l.state l.fn.draws.place l.commands;
   moves : l.draws.place + sum (map (command_draws l.chain) (drop l.command-index l.commands))
-    ≡ l.fn.draws.place + sum (map (command_draws l.chain) l.commands);
+      ≡ l.fn.draws.place + sum (map (command_draws l.chain) l.commands);
   forward : l.fn.draws.place ≤ l.draws.place;
   near : l.draws.place ≤ l.fn.draws.place + l.command-index;
   stream : l.draws ≡ record l.fn.draws { place = l.draws.place };

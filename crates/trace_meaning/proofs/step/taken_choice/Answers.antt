@@ -14,7 +14,7 @@ returns-in-Ok-drawn_choice-clause-few c =
     omega (
       arith,
       ap (λ (choice : Choice). length choice.commands)
-      (c.in-Ok-drawn_choice.ensures.value
-      ∙ ap (λ (groups : List Group). choice_of (draw_at c.args.draws.now.seed c.args.draws.now.trace) c.args.draws.now.place (flat_map group_choices groups)) c.as_slice.ensures),
+          (c.in-Ok-drawn_choice.ensures.value
+          ∙ ap (λ (groups : List Group). choice_of (draw_at c.args.draws.now.seed c.args.draws.now.trace) c.args.draws.now.place (flat_map group_choices groups)) c.as_slice.ensures),
       taken_few c.args.chain.now (draw_at c.args.draws.now.seed c.args.draws.now.trace) c.args.state.now c.args.draws.now.place (flat_map group_choices c.in-Ok.counted.1) c.in-Ok.ensures.choices,
     )

@@ -20,7 +20,7 @@ returns-in-None-clause-value c =
 pub loop-weight-preserved : goal.loop-weight-preserved
 loop-weight-preserved c = record {
   same = sym (denominator_at c.args.weights.now c.loop-weight.weight-index c.loop-weight.common c.in-Some.next c.weight-item.result c.loop-weight-test.true
-  (c.in-Some.ensures.1 ∙ ap (lcm_of c.loop-weight.common) (c.den.ensures ∙ ap (λ (f : Fraction). f.den) c.weight-item.is))) ∙ c.loop-weight.invariant.same;
+      (c.in-Some.ensures.1 ∙ ap (lcm_of c.loop-weight.common) (c.den.ensures ∙ ap (λ (f : Fraction). f.den) c.weight-item.is))) ∙ c.loop-weight.invariant.same;
   some = omega (
     arith,
     c.in-Some.ensures.1,
