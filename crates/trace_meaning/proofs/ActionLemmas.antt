@@ -15,6 +15,7 @@ abbrev is_below : ℕ → Option ℕ → Bool
 is_below n None = false
 is_below n (Some action) = nat_lt action n
 
+-- one more, where a command counts
 abbrev counted : Bool → ℕ → ℕ
 counted true rest = suc rest
 counted false rest = rest
@@ -24,10 +25,12 @@ abbrev commands_below : ℕ → List Act → ℕ
 commands_below n [] = 0
 commands_below n (act ∷ acts) = counted (is_below n act.action) (commands_below n acts)
 
+-- a command counts once at most
 counted-le : (b : Bool) (rest most : ℕ) → rest ≤ most → counted b rest ≤ suc most
 counted-le true rest most few = omega (arith, few)
 counted-le false rest most few = omega (arith, few)
 
+-- so there are at most as many as commands
 below-le : (n : ℕ) (acts : List Act) → commands_below n acts ≤ length acts
 below-le n [] = omega arith
 below-le n (act ∷ acts) = counted-le (is_below n act.action) (commands_below n acts) (length acts) (below-le n acts)
@@ -56,6 +59,7 @@ counted-grows (Some action) n rest more grows =
           ]
     ]
 
+-- no fewer commands are below the next number
 below-grows : (n : ℕ) (acts : List Act) → commands_below n acts ≤ commands_below (suc n) acts
 below-grows n [] = omega arith
 below-grows n (act ∷ acts) =
@@ -72,6 +76,7 @@ part_action n owner (Some a) same holds =
           absurd (cc)
     ]
 
+-- the command with a number is below the next one alone
 counted-more : (n : ℕ) (action : Option ℕ) (rest more : ℕ) → action ≡ Some n → rest ≤ more
     → suc (counted (is_below n action) rest) ≤ counted (is_below (suc n) action) more
 counted-more n action rest more is grows =
@@ -81,6 +86,7 @@ counted-more n action rest more is grows =
     ap (λ a. counted (is_below (suc n) a) more) is ∙ ap (λ b. counted b more) (lt-ltb n (suc n) (omega arith)) in
     omega (arith, left, right, grows)
 
+-- where one more of the other commands is below the next number, so is one more of all
 counted-both : (action : Option ℕ) (n rest more : ℕ) → suc rest ≤ more
     → suc (counted (is_below n action) rest) ≤ counted (is_below (suc n) action) more
 counted-both None n rest more grows = grows
@@ -88,16 +94,17 @@ counted-both (Some action) n rest more grows =
     let more_than : counted (is_below n (Some action)) (suc rest) ≤ counted (is_below (suc n) (Some action)) more =
     counted-grows (Some action) n (suc rest) more grows in
     elim (cases_Bool (nat_lt action n)) [
-      | inl yes_it ↦
-          let left : counted (nat_lt action n) rest ≡ suc rest = ap (λ b. counted b rest) yes_it in
-          let wider : counted (nat_lt action n) (suc rest) ≡ suc (suc rest) = ap (λ b. counted b (suc rest)) yes_it in
+      | inl is_true ↦
+          let left : counted (nat_lt action n) rest ≡ suc rest = ap (λ b. counted b rest) is_true in
+          let wider : counted (nat_lt action n) (suc rest) ≡ suc (suc rest) = ap (λ b. counted b (suc rest)) is_true in
           omega (arith, left, wider, more_than)
-      | inr no_it ↦
-          let left : counted (nat_lt action n) rest ≡ rest = ap (λ b. counted b rest) no_it in
-          let wider : counted (nat_lt action n) (suc rest) ≡ suc rest = ap (λ b. counted b (suc rest)) no_it in
+      | inr is_false ↦
+          let left : counted (nat_lt action n) rest ≡ rest = ap (λ b. counted b rest) is_false in
+          let wider : counted (nat_lt action n) (suc rest) ≡ suc rest = ap (λ b. counted b (suc rest)) is_false in
           omega (arith, left, wider, more_than)
     ]
 
+-- where a command has the number, one more is below the next
 below-more : (n owner : ℕ) (acts : List Act) → list_any (is_part n owner) acts ≡ true → suc (commands_below n acts) ≤ commands_below (suc n) acts
 below-more n owner [] some = absurd (cc)
 below-more n owner (act ∷ acts) some =

@@ -11,6 +11,7 @@ use Rattle.chain_model.specs.States.{State}
 use Rattle.chain_model.specs.Step.{assignment_of, after_assignments, sets_of, all_sets}
 use Rattle.trace_meaning.specs.Assigning.{assigned_to}
 
+-- what the first assignment and the others give together
 first_of_all : (copy : State) (r : Result (ℕ × ℤ) TraceFault) (e : Result (List (ℕ × ℤ)) TraceFault)
     → ((r >>= λ one. e >>= λ others. Ok (one ∷ others)) >>= λ assigned. Ok (after_assignments copy assigned))
     ≡ (r >>= λ one. e >>= λ assigned. Ok (after_assignments (slice_set copy one.0 one.1) assigned))
@@ -34,11 +35,13 @@ assigned_at chain state copy sets i set made lt is so =
     ∙ assigned-cons chain state copy set (drop (i + 1) sets)
     ∙ ap (λ (r : Result (ℕ × ℤ) TraceFault). r >>= λ one. assigned_to chain state (slice_set copy one.0 one.1) (drop (i + 1) sets)) so
 
+-- results in a row may be put together in either order
 pub bind_assoc : {A B C : Type 0} (r : Result A TraceFault) (f : A → Result B TraceFault) (g : B → Result C TraceFault)
     → (r >>= λ x. f x >>= g) ≡ ((r >>= f) >>= g)
 bind_assoc (Ok x) f g = refl
 bind_assoc (Err fault) f g = refl
 
+-- what comes of a value is the same, where it is for each value
 pub bind_same : {A B : Type 0} (r : Result A TraceFault) (f g : A → Result B TraceFault) → ((x : A) → f x ≡ g x) → (r >>= f) ≡ (r >>= g)
 bind_same (Ok x) f g same = same x
 bind_same (Err fault) f g same = refl
@@ -67,6 +70,7 @@ branch_at chain state copy commands branches i made in_commands in_branches so =
     ∙ assigned-append chain state copy (sets_of chain (get_or commands i 0) (get_or branches i 0)) (all_sets chain (drop (i + 1) commands) (drop (i + 1) branches))
     ∙ ap (λ (r : Result State TraceFault). r >>= λ next. assigned_to chain state next (all_sets chain (drop (i + 1) commands) (drop (i + 1) branches))) so
 
+-- without branches there are no assignments
 no_sets : (chain : Chain) (commands : List ℕ) → all_sets chain commands [] ≡ []
 no_sets chain [] = refl
 no_sets chain (command ∷ commands) = refl

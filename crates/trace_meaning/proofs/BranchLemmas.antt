@@ -27,6 +27,7 @@ by_weights draw position command read =
     read >>= λ weights. refuse_if (nat_lt most_weight_denominator (denominator_of weights)) (Denominator command)
     >> (refuse_if (not (sum (numerators_of weights) == denominator_of weights)) (Weights command) >> Ok (branch_number draw position weights))
 
+-- the branch of a command is what it takes by its weights
 branch_is : (chain : Chain) (draw : ℕ → ℕ) (state : State) (position command : ℕ) (read : Result (List Fraction) TraceFault)
     → weights_of state command (arms_of chain command) ≡ read → branch_of chain draw state position command ≡ by_weights draw position command read
 unfolding branch_of by_weights
@@ -97,6 +98,7 @@ each_next f n (Ok y) (Ok rest) ys is long =
     let same : y ∷ rest ≡ ys = cc in
     sym (ap length same) ∙ ap suc (long rest refl)
 
+-- for a whole list
 each_long : {A B : Type 0} (f : A → Result B TraceFault) (xs : List A) (ys : List B) → each f xs ≡ Ok ys → length ys ≡ length xs
 each_long f [] ys is = let same : [] ≡ ys = cc in sym (ap length same)
 each_long f (x ∷ xs) ys is = each_next f (length xs) (f x) (each f xs) ys is (each_long f xs)

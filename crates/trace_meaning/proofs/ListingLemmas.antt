@@ -17,6 +17,7 @@ use Rattle.trace_meaning.specs.Gives.{Gives}
 use Rattle.trace_meaning.specs.Counted.{limited_choices, counted_choices}
 use Rattle.trace_meaning.proofs.GroupLemmas.{groups_choices}
 
+-- one more of the first items
 taken_next : {A : Type 0} (xs : List A) (k : ℕ) (x : A) → slice_get xs k ≡ Some x → take (suc k) xs ≡ take k xs ++ (x ∷ [])
 taken_next [] k x is = absurd (cc)
 taken_next (y ∷ ys) zero x is = let same : y ≡ x = cc in ap (λ z. z ∷ []) same
@@ -33,6 +34,7 @@ listed_next xs k choice list new is more so =
 limited : List Choice → Result (List Choice) TraceFault
 limited choices = refuse_if (nat_lt (2 ^ 48) (length choices)) Choices >> Ok choices
 
+-- they are those of the groups
 limited_is : (chain : Chain) (state : State) (enabled : List ℕ) → enabled_from 0 state chain.commands ≡ Ok enabled
     → limited_choices chain state ≡ limited (flat_map group_choices (groups_of chain enabled))
 unfolding limited choices_of
@@ -40,10 +42,12 @@ limited_is chain state enabled is =
     ap (λ (r : Result (List ℕ) TraceFault). (r >>= λ e. Ok (choices_among chain e)) >>= λ choices. refuse_if (nat_lt (2 ^ 48) (length choices)) Choices >> Ok choices) is
     ∙ ap limited (sym (groups_choices chain enabled))
 
+-- too many are refused
 refused : (xs : List Choice) → 2 ^ 48 < length xs → limited xs ≡ Err Choices
 unfolding limited
 refused xs many = let test : nat_lt (2 ^ 48) (length xs) ≡ true = grind (arith, nat_tests) in ap (λ b. refuse_if b Choices >> Ok xs) test
 
+-- others are not
 allowed : (xs : List Choice) → length xs ≤ 2 ^ 48 → limited xs ≡ Ok xs
 unfolding limited
 allowed xs few = let test : nat_lt (2 ^ 48) (length xs) ≡ false = grind (arith, nat_tests) in ap (λ b. refuse_if b Choices >> Ok xs) test
@@ -75,6 +79,7 @@ pub limited_err : (chain : Chain) (state : State) (fault : StepFault) → Gives 
 limited_err chain state (Trace fault) is = limited_fault chain state fault is
 limited_err chain state (OutOfMemory error) is = tt
 
+-- no more than all are taken
 taken_less : {A : Type 0} (xs : List A) (n : ℕ) → take (min (length xs) n) xs ≡ take n xs
 taken_less [] zero = refl
 taken_less {A} [] (suc n) = let none : min 0 (suc n) ≡ 0 = omega arith in ap (λ k. take {A = A} k []) none

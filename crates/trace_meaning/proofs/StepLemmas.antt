@@ -26,10 +26,12 @@ use Rattle.trace_meaning.specs.Gives.{Gives}
 use Rattle.trace_meaning.specs.Stepped.{choice_taken, GivesStep}
 use Rattle.trace_meaning.proofs.AssignmentLemmas.{bind_assoc, bind_same}
 
+-- choices that are not refused are those that there are
 not_refused : (test : Bool) (choices xs : List Choice) → (refuse_if test Choices >> Ok choices) ≡ Ok xs → choices ≡ xs
 not_refused true choices xs is = absurd (cc)
 not_refused false choices xs is = cc
 
+-- so choices that are not too many are all that there are
 all_choices : (read : Result (List Choice) TraceFault) (xs : List Choice)
     → (read >>= λ choices. refuse_if (nat_lt most_choices (length choices)) Choices >> Ok choices) ≡ Ok xs → read ≡ Ok xs
 all_choices (Err fault) xs is = absurd (cc)
@@ -54,11 +56,13 @@ after_choice chain draw state taken =
     branches_of chain draw state taken.1 taken.0.commands >>= λ branches. assigned_to chain state state (all_sets chain taken.0.commands branches)
     >>= λ next. Ok (record { state = next; position = taken.1 + sum (map (command_draws chain) taken.0.commands) }, record { choice = taken.0; branches = branches })
 
+-- what follows a test, in one or in two parts
 by_test : {A B C : Type 0} (test : Bool) (fault : TraceFault) (x : A) (f : Result C TraceFault) (k : A → B) (g : B → Result C TraceFault) → f ≡ g (k x)
     → (refuse_if test fault >> f) ≡ (((refuse_if test fault >> Ok x) >>= λ y. Ok (k y)) >>= g)
 by_test true fault x f k g same = refl
 by_test false fault x f k g same = same
 
+-- what follows the choices, in one or in two parts
 by_choices : {B C : Type 0} (read : Result (List Choice) TraceFault) (f : List Choice → Result C TraceFault) (k : List Choice → B) (g : B → Result C TraceFault)
     → ((choices : List Choice) → f choices ≡ g (k choices))
     → (read >>= λ choices. refuse_if (nat_lt most_choices (length choices)) Choices >> f choices)

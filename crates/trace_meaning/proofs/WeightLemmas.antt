@@ -36,10 +36,12 @@ pub above_at : (den picked before : ℕ) (weights : List Fraction) (i : ℕ) (d 
 above_at den picked before weights i d lt =
     at_drop_more (λ (ws : List Fraction). first_above picked (running_sums before (numerators_over den ws))) weights i d lt
 
+-- a product that is not 0 has no factor 0
 some_factor : (a b : ℕ) → 0 < a * b → 0 < a
 some_factor zero b some = absurd (omega (arith, some, zero-mul b))
 some_factor (suc a) b some = omega arith
 
+-- a number is at most its multiples
 times_some : (a b : ℕ) → 0 < b → a ≤ a * b
 times_some a (suc b) some = omega (arith, mul-suc a b)
 times_some a zero some = absurd (omega (arith, some))
