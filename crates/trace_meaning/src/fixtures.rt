@@ -87,30 +87,54 @@ pub fn typed(alloc: Global, tree: Tree) -> Result<Typed, AllocError> {
     Ok(Typed { sort, form })
 }
 
-/// A command: its module, its action, its guard, and for each branch a weight and assignments.
+/// A branch: its weight, and the variable that it assigns and the right side.
 #[derive(Clone, Copy)]
-pub struct Command<'a> {
+pub struct Branch {
+    pub weight: Tree,
+    pub set: Option<(u32, Tree)>,
+}
+
+/// A command of one branch, or of two.
+#[derive(Clone, Copy)]
+pub struct Command {
     pub module: u32,
     pub action: Option<u32>,
     pub guard: Tree,
-    pub branches: &'a [(Tree, &'a [(u32, Tree)])],
+    pub first: Branch,
+    pub second: Option<Branch>,
 }
 
-fn arm(alloc: Global, weight: Tree, sets: &[(u32, Tree)]) -> Result<Arm, AllocError> {
-    let mut items = Items::new(alloc);
-    for (number, tree) in sets {
-        items.push((*number, typed(alloc, *tree)?))?;
+/// A branch that is sure and assigns nothing.
+pub const SURE: Branch = Branch {
+    weight: Tree::Number(1, 1),
+    set: None,
+};
+
+/// The command of the first module that is always enabled, has no action and stays.
+pub const STAYS: Command = Command {
+    module: 0,
+    action: None,
+    guard: Tree::Truth(true),
+    first: SURE,
+    second: None,
+};
+
+fn arm(alloc: Global, branch: &Branch) -> Result<Arm, AllocError> {
+    let mut sets = Items::new(alloc);
+    if let Some((number, tree)) = branch.set {
+        sets.push((number, typed(alloc, tree)?))?;
     }
     Ok(Arm {
-        weight: typed(alloc, weight)?,
-        sets: items,
+        weight: typed(alloc, branch.weight)?,
+        sets,
     })
 }
 
-fn act(alloc: Global, command: &Command<'_>) -> Result<Act, AllocError> {
+fn act(alloc: Global, command: &Command) -> Result<Act, AllocError> {
     let mut branches = Items::new(alloc);
-    for (weight, sets) in command.branches {
-        branches.push(arm(alloc, *weight, sets)?)?;
+    branches.push(arm(alloc, &command.first)?)?;
+    if let Some(second) = command.second {
+        branches.push(arm(alloc, &second)?)?;
     }
     Ok(Act {
         module: command.module,
@@ -120,41 +144,60 @@ fn act(alloc: Global, command: &Command<'_>) -> Result<Act, AllocError> {
     })
 }
 
-/// A variable of a module, from 0 to 3.
-fn from_0_to_3(alloc: Global, module: u32) -> Result<Var, AllocError> {
-    Ok(Var {
-        name: Text::from_bytes(alloc, b"x")?,
-        owner: Some(module),
-        sort: Sort::Int,
-        lo: 0,
-        hi: 3,
-        init: 0,
-    })
-}
-
-/// The chain of so many modules, each with one variable, of actions by the modules that they take, and of commands.
-pub fn chain(
-    alloc: Global,
-    modules: u32,
-    takes: &[&[u32]],
-    commands: &[Command<'_>],
-) -> Result<Option<Chain>, AllocError> {
-    let mut vars = Items::new(alloc);
-    let mut names = Items::new(alloc);
-    for module in 0..modules {
-        vars.push(from_0_to_3(alloc, module)?)?;
-        names.push(Text::from_bytes(alloc, b"m")?)?;
-    }
-    let mut actions = Items::new(alloc);
-    for modules in takes {
-        actions.push(Action {
-            name: Text::from_bytes(alloc, b"a")?,
-            takes: Items::from_slice(alloc, modules)?,
-        })?;
-    }
+fn acts(alloc: Global, commands: &[Command]) -> Result<Items<Act>, AllocError> {
     let mut acts = Items::new(alloc);
     for command in commands {
         acts.push(act(alloc, command)?)?;
     }
+    Ok(acts)
+}
+
+/// So many variables, one of each module, from 0 to 3.
+fn variables(alloc: Global, modules: u32) -> Result<Items<Var>, AllocError> {
+    let mut vars = Items::new(alloc);
+    for module in 0..modules {
+        vars.push(Var {
+            name: Text::from_bytes(alloc, b"x")?,
+            owner: Some(module),
+            sort: Sort::Int,
+            lo: 0,
+            hi: 3,
+            init: 0,
+        })?;
+    }
+    Ok(vars)
+}
+
+fn names(alloc: Global, modules: u32) -> Result<Items<Text>, AllocError> {
+    let mut names = Items::new(alloc);
+    for _ in 0..modules {
+        names.push(Text::from_bytes(alloc, b"m")?)?;
+    }
+    Ok(names)
+}
+
+/// One action of these modules, or none where there are none.
+fn actions(alloc: Global, takes: &[u32]) -> Result<Items<Action>, AllocError> {
+    let mut actions = Items::new(alloc);
+    if !takes.is_empty() {
+        actions.push(Action {
+            name: Text::from_bytes(alloc, b"a")?,
+            takes: Items::from_slice(alloc, takes)?,
+        })?;
+    }
+    Ok(actions)
+}
+
+/// The chain of so many modules, each with one variable, of an action of some modules, and of commands.
+pub fn chain(
+    alloc: Global,
+    modules: u32,
+    takes: &[u32],
+    commands: &[Command],
+) -> Result<Option<Chain>, AllocError> {
+    let vars = variables(alloc, modules)?;
+    let actions = actions(alloc, takes)?;
+    let names = names(alloc, modules)?;
+    let acts = acts(alloc, commands)?;
     Ok(Chain::new(vars, actions, names, acts, Items::new(alloc)))
 }

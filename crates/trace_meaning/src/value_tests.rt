@@ -1,7 +1,7 @@
 //! Values of expressions, worked out by hand.
 
 use super::*;
-use crate::fixtures::{Command, Tree, chain, typed};
+use crate::fixtures::{Command, STAYS, Tree, chain, typed};
 use chain_model::{Chain, Form, Func, Op, Sort, TraceFault, Typed, Value};
 use smc_num::Frac;
 use sqlite_items::{Boxed, Items};
@@ -16,14 +16,14 @@ enum Gives {
     Fault(TraceFault),
 }
 
-fn is_given(given: Result<Value, TraceFault>, gives: Gives) -> bool {
-    match (given, gives) {
-        (Ok(Value::Bool(holds)), Gives::Truth(expected)) => holds == expected,
-        (Ok(Value::Num(number)), Gives::Number(num, den)) => {
-            number.num() == num && number.den() == den
-        }
-        (Err(fault), Gives::Fault(expected)) => fault == expected,
-        _ => false,
+fn given(gives: &Gives) -> Result<Value, TraceFault> {
+    match gives {
+        Gives::Truth(holds) => Ok(Value::Bool(*holds)),
+        Gives::Number(num, den) => match Frac::new(*num, *den) {
+            Ok(number) => Ok(Value::Num(number)),
+            Err(_) => Err(TraceFault::Choices),
+        },
+        Gives::Fault(fault) => Err(*fault),
     }
 }
 
@@ -32,165 +32,288 @@ fn empty(alloc: Global) -> Result<Option<Chain>, AllocError> {
     chain(alloc, 2, &[], &[])
 }
 
-fn level(alloc: Global, parts: [Option<Tree>; 3], ops: &[Op]) -> Result<Typed, AllocError> {
-    let mut operands = Items::new(alloc);
-    for part in parts {
-        if let Some(tree) = part {
-            operands.push(typed(alloc, tree)?)?;
+const YES: Option<Tree> = Some(Tree::Truth(true));
+
+const NO: Option<Tree> = Some(Tree::Truth(false));
+
+const ONE: Option<Tree> = Some(Tree::Number(1, 1));
+
+const TWO: Option<Tree> = Some(Tree::Number(2, 1));
+
+const THREE: Option<Tree> = Some(Tree::Number(3, 1));
+
+const HALF: Option<Tree> = Some(Tree::Number(1, 2));
+
+const THIRD: Option<Tree> = Some(Tree::Number(1, 3));
+
+const MOST: Option<Tree> = Some(Tree::Number(GREATEST, 1));
+
+const FAULT: Option<Tree> = Some(Tree::Fault);
+
+const BROKEN: Option<Tree> = Some(Tree::FaultTruth);
+
+const GREATEST: i64 = 4_611_686_018_427_387_903;
+
+const ZERO_DIVISOR: Gives = Gives::Fault(TraceFault::ZeroDivisor);
+
+const OUT_OF_LIMIT: Gives = Gives::Fault(TraceFault::OutOfLimit);
+
+const OUTSIDE: Gives = Gives::Fault(TraceFault::OutsideDomain);
+
+/// Operands, operators between them, and what the level gives.
+static LEVELS: [([Option<Tree>; 3], [Option<Op>; 2], Gives); 33] = [
+    (
+        [HALF, THIRD, None],
+        [Some(Op::Add), None],
+        Gives::Number(5, 6),
+    ),
+    (
+        [ONE, TWO, THREE],
+        [Some(Op::Sub), Some(Op::Sub)],
+        Gives::Number(-4, 1),
+    ),
+    (
+        [ONE, TWO, THREE],
+        [Some(Op::Sub), Some(Op::Add)],
+        Gives::Number(2, 1),
+    ),
+    (
+        [ONE, TWO, THREE],
+        [Some(Op::Div), Some(Op::Div)],
+        Gives::Number(1, 6),
+    ),
+    (
+        [ONE, TWO, THREE],
+        [Some(Op::Div), Some(Op::Mul)],
+        Gives::Number(3, 2),
+    ),
+    (
+        [HALF, TWO, None],
+        [Some(Op::Mul), None],
+        Gives::Number(1, 1),
+    ),
+    (
+        [MOST, ONE, ONE],
+        [Some(Op::Add), Some(Op::Sub)],
+        OUT_OF_LIMIT,
+    ),
+    (
+        [MOST, ONE, ONE],
+        [Some(Op::Sub), Some(Op::Add)],
+        Gives::Number(GREATEST, 1),
+    ),
+    (
+        [MOST, ONE, FAULT],
+        [Some(Op::Add), Some(Op::Add)],
+        OUT_OF_LIMIT,
+    ),
+    (
+        [ONE, FAULT, MOST],
+        [Some(Op::Add), Some(Op::Mul)],
+        ZERO_DIVISOR,
+    ),
+    ([ONE, TWO, None], [Some(Op::Lt), None], Gives::Truth(true)),
+    (
+        [HALF, THIRD, None],
+        [Some(Op::Lt), None],
+        Gives::Truth(false),
+    ),
+    ([TWO, TWO, None], [Some(Op::Le), None], Gives::Truth(true)),
+    ([TWO, TWO, None], [Some(Op::Gt), None], Gives::Truth(false)),
+    ([THREE, TWO, None], [Some(Op::Gt), None], Gives::Truth(true)),
+    ([ONE, TWO, None], [Some(Op::Ge), None], Gives::Truth(false)),
+    ([TWO, TWO, None], [Some(Op::Eq), None], Gives::Truth(true)),
+    ([NO, YES, None], [Some(Op::Eq), None], Gives::Truth(false)),
+    (
+        [ONE, TWO, YES],
+        [Some(Op::Eq), Some(Op::Eq)],
+        Gives::Truth(false),
+    ),
+    (
+        [ONE, TWO, YES],
+        [Some(Op::Ne), Some(Op::Eq)],
+        Gives::Truth(true),
+    ),
+    (
+        [NO, BROKEN, None],
+        [Some(Op::And), None],
+        Gives::Truth(false),
+    ),
+    (
+        [YES, NO, BROKEN],
+        [Some(Op::And), Some(Op::And)],
+        Gives::Truth(false),
+    ),
+    (
+        [YES, BROKEN, NO],
+        [Some(Op::And), Some(Op::And)],
+        ZERO_DIVISOR,
+    ),
+    (
+        [YES, BROKEN, None],
+        [Some(Op::Or), None],
+        Gives::Truth(true),
+    ),
+    (
+        [NO, NO, YES],
+        [Some(Op::Or), Some(Op::Or)],
+        Gives::Truth(true),
+    ),
+    (
+        [NO, BROKEN, YES],
+        [Some(Op::Or), Some(Op::Or)],
+        ZERO_DIVISOR,
+    ),
+    (
+        [NO, BROKEN, None],
+        [Some(Op::Imp), None],
+        Gives::Truth(true),
+    ),
+    ([YES, BROKEN, None], [Some(Op::Imp), None], ZERO_DIVISOR),
+    ([YES, NO, None], [Some(Op::Imp), None], Gives::Truth(false)),
+    ([BROKEN, NO, None], [Some(Op::Imp), None], ZERO_DIVISOR),
+    (
+        [NO, NO, NO],
+        [Some(Op::Iff), Some(Op::Iff)],
+        Gives::Truth(false),
+    ),
+    (
+        [NO, YES, NO],
+        [Some(Op::Iff), Some(Op::Iff)],
+        Gives::Truth(true),
+    ),
+    (
+        [NO, NO, BROKEN],
+        [Some(Op::Iff), Some(Op::Iff)],
+        ZERO_DIVISOR,
+    ),
+];
+
+fn level(alloc: Global, parts: &[Option<Tree>], ops: &[Option<Op>]) -> Result<Typed, AllocError> {
+    let mut operators = Items::new(alloc);
+    for op in ops {
+        if let Some(op) = op {
+            operators.push(*op)?;
         }
     }
     Ok(Typed {
         sort: Sort::Double,
-        form: Form::Level(operands, Items::from_slice(alloc, ops)?),
+        form: Form::Level(trees(alloc, parts)?, operators),
     })
 }
 
-const GREATEST: i64 = 4_611_686_018_427_387_903;
+fn trees(alloc: Global, parts: &[Option<Tree>]) -> Result<Items<Typed>, AllocError> {
+    let mut trees = Items::new(alloc);
+    for part in parts {
+        if let Some(tree) = part {
+            trees.push(typed(alloc, *tree)?)?;
+        }
+    }
+    Ok(trees)
+}
 
 #[test]
 fn levels_are_folded_from_the_left(rt: HostRuntime) -> Result<(), Fail> {
     let alloc = rt.alloc();
-    let (yes, no, fault) = (
-        Some(Tree::Truth(true)),
-        Some(Tree::Truth(false)),
-        Some(Tree::Fault),
-    );
-    let (one, two, three) = (
-        Some(Tree::Number(1, 1)),
-        Some(Tree::Number(2, 1)),
-        Some(Tree::Number(3, 1)),
-    );
-    let (half, third) = (Some(Tree::Number(1, 2)), Some(Tree::Number(1, 3)));
-    let (greatest, broken) = (Some(Tree::Number(GREATEST, 1)), Some(Tree::FaultTruth));
-    let zero_divisor = Gives::Fault(TraceFault::ZeroDivisor);
-    let out_of_limit = Gives::Fault(TraceFault::OutOfLimit);
-    let cases: [([Option<Tree>; 3], &[Op], Gives); 33] = [
-        ([half, third, None], &[Op::Add], Gives::Number(5, 6)),
-        ([one, two, three], &[Op::Sub, Op::Sub], Gives::Number(-4, 1)),
-        ([one, two, three], &[Op::Sub, Op::Add], Gives::Number(2, 1)),
-        ([one, two, three], &[Op::Div, Op::Div], Gives::Number(1, 6)),
-        ([one, two, three], &[Op::Div, Op::Mul], Gives::Number(3, 2)),
-        ([half, two, None], &[Op::Mul], Gives::Number(1, 1)),
-        ([greatest, one, one], &[Op::Add, Op::Sub], out_of_limit),
-        (
-            [greatest, one, one],
-            &[Op::Sub, Op::Add],
-            Gives::Number(GREATEST, 1),
-        ),
-        ([greatest, one, fault], &[Op::Add, Op::Add], out_of_limit),
-        ([one, fault, greatest], &[Op::Add, Op::Mul], zero_divisor),
-        ([one, two, None], &[Op::Lt], Gives::Truth(true)),
-        ([half, third, None], &[Op::Lt], Gives::Truth(false)),
-        ([two, two, None], &[Op::Le], Gives::Truth(true)),
-        ([two, two, None], &[Op::Gt], Gives::Truth(false)),
-        ([three, two, None], &[Op::Gt], Gives::Truth(true)),
-        ([one, two, None], &[Op::Ge], Gives::Truth(false)),
-        ([two, two, None], &[Op::Eq], Gives::Truth(true)),
-        ([no, yes, None], &[Op::Eq], Gives::Truth(false)),
-        ([one, two, yes], &[Op::Eq, Op::Eq], Gives::Truth(false)),
-        ([one, two, yes], &[Op::Ne, Op::Eq], Gives::Truth(true)),
-        ([no, broken, None], &[Op::And], Gives::Truth(false)),
-        ([yes, no, broken], &[Op::And, Op::And], Gives::Truth(false)),
-        ([yes, broken, no], &[Op::And, Op::And], zero_divisor),
-        ([yes, broken, None], &[Op::Or], Gives::Truth(true)),
-        ([no, no, yes], &[Op::Or, Op::Or], Gives::Truth(true)),
-        ([no, broken, yes], &[Op::Or, Op::Or], zero_divisor),
-        ([no, broken, None], &[Op::Imp], Gives::Truth(true)),
-        ([yes, broken, None], &[Op::Imp], zero_divisor),
-        ([yes, no, None], &[Op::Imp], Gives::Truth(false)),
-        ([broken, no, None], &[Op::Imp], zero_divisor),
-        ([no, no, no], &[Op::Iff, Op::Iff], Gives::Truth(false)),
-        ([no, yes, no], &[Op::Iff, Op::Iff], Gives::Truth(true)),
-        ([no, no, broken], &[Op::Iff, Op::Iff], zero_divisor),
-    ];
     let Some(chain) = empty(alloc)? else {
         panic!(rt; "the parts are a chain");
     };
-    for (number, (parts, ops, gives)) in (0u64..).zip(cases) {
+    for (parts, ops, gives) in &LEVELS {
         let tree = level(alloc, parts, ops)?;
-        assert!(rt;
-            is_given(eval(&tree, &chain, &[0, 0]), gives),
-            "case {number}"
-        );
+        assert!(rt; eval(&tree, &chain, &[0, 0]) == given(gives));
     }
     Ok(())
 }
 
-fn call(alloc: Global, func: Func, parts: [Option<Tree>; 3]) -> Result<Typed, AllocError> {
-    let mut trees = Items::new(alloc);
-    for part in parts {
-        if let Some(tree) = part {
-            trees.push(typed(alloc, tree)?)?;
-        }
-    }
+/// A function, its parts, and what the call gives.
+static CALLS: [(Func, [Option<Tree>; 3], Gives); 17] = [
+    (Func::Min, [THREE, TWO, ONE], Gives::Number(1, 1)),
+    (
+        Func::Min,
+        [Some(Tree::Number(1, 2)), Some(Tree::Number(-1, 3)), None],
+        Gives::Number(-1, 3),
+    ),
+    (Func::Max, [ONE, THREE, TWO], Gives::Number(3, 1)),
+    (Func::Max, [ONE, TWO, Some(Tree::Fault)], ZERO_DIVISOR),
+    (
+        Func::Floor,
+        [Some(Tree::Number(-1, 2)), None, None],
+        Gives::Number(-1, 1),
+    ),
+    (
+        Func::Floor,
+        [Some(Tree::Number(7, 2)), None, None],
+        Gives::Number(3, 1),
+    ),
+    (
+        Func::Ceil,
+        [Some(Tree::Number(-1, 2)), None, None],
+        Gives::Number(0, 1),
+    ),
+    (
+        Func::Ceil,
+        [Some(Tree::Number(7, 2)), None, None],
+        Gives::Number(4, 1),
+    ),
+    (
+        Func::Pow,
+        [Some(Tree::Number(-1, 2)), THREE, None],
+        Gives::Number(-1, 8),
+    ),
+    (
+        Func::Pow,
+        [Some(Tree::Number(0, 1)), Some(Tree::Number(0, 1)), None],
+        Gives::Number(1, 1),
+    ),
+    (
+        Func::Pow,
+        [Some(Tree::Number(0, 1)), Some(Tree::Number(-1, 1)), None],
+        OUTSIDE,
+    ),
+    (
+        Func::Pow,
+        [TWO, Some(Tree::Number(61, 1)), None],
+        Gives::Number(2_305_843_009_213_693_952, 1),
+    ),
+    (
+        Func::Pow,
+        [TWO, Some(Tree::Number(62, 1)), None],
+        Gives::Fault(TraceFault::OutOfLimit),
+    ),
+    (
+        Func::Mod,
+        [Some(Tree::Number(-1, 1)), THREE, None],
+        Gives::Number(2, 1),
+    ),
+    (
+        Func::Mod,
+        [Some(Tree::Number(7, 1)), THREE, None],
+        Gives::Number(1, 1),
+    ),
+    (
+        Func::Mod,
+        [ONE, Some(Tree::Number(0, 1)), None],
+        ZERO_DIVISOR,
+    ),
+    (Func::Mod, [ONE, Some(Tree::Number(-3, 1)), None], OUTSIDE),
+];
+
+fn call(alloc: Global, func: Func, parts: &[Option<Tree>]) -> Result<Typed, AllocError> {
     Ok(Typed {
         sort: Sort::Double,
-        form: Form::Call(func, trees),
+        form: Form::Call(func, trees(alloc, parts)?),
     })
-}
-
-fn number(num: i64, den: i64) -> Option<Tree> {
-    Some(Tree::Number(num, den))
 }
 
 #[test]
 fn functions_give_what_the_table_says(rt: HostRuntime) -> Result<(), Fail> {
     let alloc = rt.alloc();
-    let zero_divisor = Gives::Fault(TraceFault::ZeroDivisor);
-    let outside = Gives::Fault(TraceFault::OutsideDomain);
-    let (one, two, three) = (number(1, 1), number(2, 1), number(3, 1));
-    let cases = [
-        (Func::Min, [three, two, one], Gives::Number(1, 1)),
-        (
-            Func::Min,
-            [number(1, 2), number(-1, 3), None],
-            Gives::Number(-1, 3),
-        ),
-        (Func::Max, [one, three, two], Gives::Number(3, 1)),
-        (Func::Max, [one, two, Some(Tree::Fault)], zero_divisor),
-        (
-            Func::Floor,
-            [number(-1, 2), None, None],
-            Gives::Number(-1, 1),
-        ),
-        (Func::Floor, [number(7, 2), None, None], Gives::Number(3, 1)),
-        (Func::Ceil, [number(-1, 2), None, None], Gives::Number(0, 1)),
-        (Func::Ceil, [number(7, 2), None, None], Gives::Number(4, 1)),
-        (
-            Func::Pow,
-            [number(-1, 2), three, None],
-            Gives::Number(-1, 8),
-        ),
-        (
-            Func::Pow,
-            [number(0, 1), number(0, 1), None],
-            Gives::Number(1, 1),
-        ),
-        (Func::Pow, [number(0, 1), number(-1, 1), None], outside),
-        (
-            Func::Pow,
-            [two, number(61, 1), None],
-            Gives::Number(1 << 61, 1),
-        ),
-        (
-            Func::Pow,
-            [two, number(62, 1), None],
-            Gives::Fault(TraceFault::OutOfLimit),
-        ),
-        (Func::Mod, [number(-1, 1), three, None], Gives::Number(2, 1)),
-        (Func::Mod, [number(7, 1), three, None], Gives::Number(1, 1)),
-        (Func::Mod, [one, number(0, 1), None], zero_divisor),
-        (Func::Mod, [one, number(-3, 1), None], outside),
-    ];
     let Some(chain) = empty(alloc)? else {
         panic!(rt; "the parts are a chain");
     };
-    for (number, (func, parts, gives)) in (0u64..).zip(cases) {
-        let tree = call(alloc, func, parts)?;
-        assert!(rt;
-            is_given(eval(&tree, &chain, &[0, 0]), gives),
-            "case {number}"
-        );
+    for (func, parts, gives) in &CALLS {
+        let tree = call(alloc, *func, parts)?;
+        assert!(rt; eval(&tree, &chain, &[0, 0]) == given(gives));
     }
     Ok(())
 }
@@ -211,107 +334,131 @@ fn conditional(
     })
 }
 
+/// A condition, two parts, and what the conditional gives where the variables are 3 and 2.
+static CONDITIONALS: [(Tree, Tree, Tree, Gives); 6] = [
+    (
+        Tree::Truth(true),
+        Tree::Number(1, 1),
+        Tree::Fault,
+        Gives::Number(1, 1),
+    ),
+    (
+        Tree::Truth(false),
+        Tree::Fault,
+        Tree::Number(1, 1),
+        Gives::Number(1, 1),
+    ),
+    (
+        Tree::Truth(true),
+        Tree::Fault,
+        Tree::Number(1, 1),
+        ZERO_DIVISOR,
+    ),
+    (
+        Tree::FaultTruth,
+        Tree::Number(1, 1),
+        Tree::Number(1, 1),
+        ZERO_DIVISOR,
+    ),
+    (
+        Tree::Is(1, 2),
+        Tree::Var(0),
+        Tree::Plus(0, 1),
+        Gives::Number(3, 1),
+    ),
+    (
+        Tree::Is(1, 1),
+        Tree::Var(0),
+        Tree::Plus(0, 1),
+        Gives::Number(4, 1),
+    ),
+];
+
 #[test]
 fn conditionals_read_the_part_that_they_pick(rt: HostRuntime) -> Result<(), Fail> {
     let alloc = rt.alloc();
-    let (one, fault) = (Tree::Number(1, 1), Tree::Fault);
-    let zero_divisor = Gives::Fault(TraceFault::ZeroDivisor);
-    let cases = [
-        (Tree::Truth(true), one, fault, Gives::Number(1, 1)),
-        (Tree::Truth(false), fault, one, Gives::Number(1, 1)),
-        (Tree::Truth(true), fault, one, zero_divisor),
-        (Tree::FaultTruth, one, one, zero_divisor),
-        (
-            Tree::Is(1, 2),
-            Tree::Var(0),
-            Tree::Plus(0, 1),
-            Gives::Number(3, 1),
-        ),
-        (
-            Tree::Is(1, 1),
-            Tree::Var(0),
-            Tree::Plus(0, 1),
-            Gives::Number(4, 1),
-        ),
-    ];
     let Some(chain) = empty(alloc)? else {
         panic!(rt; "the parts are a chain");
     };
-    for (condition, first, second, gives) in cases {
+    for (condition, first, second, gives) in &CONDITIONALS {
+        let condition = typed(alloc, *condition)?;
         let tree = conditional(
             alloc,
-            typed(alloc, condition)?,
-            typed(alloc, first)?,
-            typed(alloc, second)?,
+            condition,
+            typed(alloc, *first)?,
+            typed(alloc, *second)?,
         )?;
-        assert!(rt; is_given(eval(&tree, &chain, &[3, 2]), gives));
+        assert!(rt; eval(&tree, &chain, &[3, 2]) == given(gives));
     }
     Ok(())
 }
 
-/// Two modules with an action that only the first offers where x is 1, and a guard that faults where x is 2.
-const SYNCHRONISED: [Command<'static>; 3] = [
+/// Two modules with an action that each offers where its variable is 1, and a command of the second without an action
+/// where its variable is 3. A guard faults in no state.
+static SYNCHRONISED: [Command; 3] = [
     Command {
-        module: 0,
         action: Some(0),
         guard: Tree::Is(0, 1),
-        branches: &[(Tree::Number(1, 1), &[])],
+        ..STAYS
     },
     Command {
         module: 1,
         action: Some(0),
         guard: Tree::Is(1, 1),
-        branches: &[(Tree::Number(1, 1), &[])],
+        ..STAYS
     },
     Command {
         module: 1,
-        action: None,
         guard: Tree::Is(1, 3),
-        branches: &[(Tree::Number(1, 1), &[])],
+        ..STAYS
     },
+];
+
+/// A label, the values of the variables, and whether the label holds.
+static LABELS: [(Tree, [i64; 2], Gives); 7] = [
+    (Tree::Init, [0, 0], Gives::Truth(true)),
+    (Tree::Init, [0, 1], Gives::Truth(false)),
+    (Tree::Deadlock, [0, 0], Gives::Truth(true)),
+    (Tree::Deadlock, [1, 0], Gives::Truth(true)),
+    (Tree::Deadlock, [0, 1], Gives::Truth(true)),
+    (Tree::Deadlock, [1, 1], Gives::Truth(false)),
+    (Tree::Deadlock, [0, 3], Gives::Truth(false)),
 ];
 
 #[test]
 fn labels_speak_of_the_state(rt: HostRuntime) -> Result<(), Fail> {
     let alloc = rt.alloc();
-    let cases = [
-        (Tree::Init, [0, 0], true),
-        (Tree::Init, [0, 1], false),
-        (Tree::Deadlock, [0, 0], true),
-        (Tree::Deadlock, [1, 0], true),
-        (Tree::Deadlock, [0, 1], true),
-        (Tree::Deadlock, [1, 1], false),
-        (Tree::Deadlock, [0, 3], false),
-    ];
-    let Some(chain) = chain(alloc, 2, &[&[0, 1]], &SYNCHRONISED)? else {
+    let Some(chain) = chain(alloc, 2, &[0, 1], &SYNCHRONISED)? else {
         panic!(rt; "the parts are a chain");
     };
-    for (label, state, holds) in cases {
-        let tree = typed(alloc, label)?;
-        assert!(rt; is_given(eval(&tree, &chain, &state), Gives::Truth(holds)));
+    for (label, state, gives) in &LABELS {
+        let tree = typed(alloc, *label)?;
+        assert!(rt; eval(&tree, &chain, state) == given(gives));
     }
     Ok(())
 }
 
+/// A command whose guard faults.
+static FAULTS: [Command; 1] = [Command {
+    guard: Tree::FaultTruth,
+    ..STAYS
+}];
+
+/// What is told of that guard.
+static TOLD: [(Tree, Gives); 3] = [
+    (Tree::Deadlock, ZERO_DIVISOR),
+    (Tree::Init, Gives::Truth(true)),
+    (Tree::Var(0), Gives::Number(0, 1)),
+];
+
 #[test]
 fn a_guard_that_faults_is_told_only_where_deadlock_is_read(rt: HostRuntime) -> Result<(), Fail> {
     let alloc = rt.alloc();
-    let command = Command {
-        module: 0,
-        action: None,
-        guard: Tree::FaultTruth,
-        branches: &[(Tree::Number(1, 1), &[])],
-    };
-    let Some(chain) = chain(alloc, 1, &[], &[command])? else {
+    let Some(chain) = chain(alloc, 1, &[], &FAULTS)? else {
         panic!(rt; "the parts are a chain");
     };
-    let cases = [
-        (Tree::Deadlock, Gives::Fault(TraceFault::ZeroDivisor)),
-        (Tree::Init, Gives::Truth(true)),
-        (Tree::Var(0), Gives::Number(0, 1)),
-    ];
-    for (tree, gives) in cases {
-        assert!(rt; is_given(eval(&typed(alloc, tree)?, &chain, &[0]), gives));
+    for (tree, gives) in &TOLD {
+        assert!(rt; eval(&typed(alloc, *tree)?, &chain, &[0]) == given(gives));
     }
     Ok(())
 }
@@ -353,7 +500,7 @@ fn the_deepest_expression_is_evaluated(rt: HostRuntime) -> Result<(), Fail> {
         panic!(rt; "the parts are a chain");
     };
     let tree = deepest(alloc)?;
-    assert!(rt; is_given(eval(&tree, &chain, &[2, 0]), Gives::Truth(true)));
-    assert!(rt; is_given(eval(&tree, &chain, &[3, 0]), Gives::Truth(false)));
+    assert!(rt; eval(&tree, &chain, &[2, 0]) == Ok(Value::Bool(true)));
+    assert!(rt; eval(&tree, &chain, &[3, 0]) == Ok(Value::Bool(false)));
     Ok(())
 }
