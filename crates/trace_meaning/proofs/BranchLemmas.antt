@@ -1,6 +1,6 @@
 -- The branch of a command from its weights, and how many branches there may be.
-use Rattle.std.proofs.Common.{◌≡◌, ◌==◌, ℕ, suc, ◌≤◌, ◌<◌, ◌^◌, List, [], ◌∷◌, length, get_or, Bool, true, false, All, refl, sym, ap, ◌∙◌, subst, inl, inr, arith, nat_lt}
-use Rattle.std.specs.Prelude.{not, Result, Ok, Err, Some, None, sum, slice_get}
+use Rattle.std.proofs.Common.{◌≡◌, ◌==◌, ℕ, suc, ◌≤◌, ◌<◌, ◌^◌, List, [], ◌∷◌, length, Bool, true, false, refl, sym, ap, ◌∙◌, subst, inl, inr, arith, nat_lt}
+use Rattle.std.specs.Prelude.{not, Result, Ok, Err, sum}
 use Rattle.std.specs.Option.{option_map_or}
 use Rattle.std.proofs.lemmas.Bool.{lt-ltb, le-ltb}
 use Rattle.std.proofs.lemmas.List.Elements.{All-get_or}

@@ -1,9 +1,7 @@
 -- A step from its parts: the choice, the branches, and what they assign.
-use Rattle.std.proofs.Common.{◌≡◌, ℕ, ◌+◌, ◌<◌, ◌≤◌, List, [], ◌∷◌, length, get_or, map, Bool, true, false, refl, sym, ap, ◌∙◌, subst, inl, inr, arith, nat_lt}
-use Rattle.std.specs.Prelude.{ℤ, Result, Ok, Err, Some, None, sum, slice_get, unwrap_or, if◌then◌else◌}
+use Rattle.std.proofs.Common.{◌≡◌, ℕ, ◌+◌, ◌≤◌, List, length, map, Bool, true, false, refl, sym, ap, ◌∙◌, subst, inl, inr, arith, nat_lt}
+use Rattle.std.specs.Prelude.{Result, Ok, Err, sum, unwrap_or, if◌then◌else◌}
 use Rattle.std.specs.List.{Contains}
-use Rattle.std.specs.declared.vec.Vec.{Vec}
-use Rattle.std.specs.declared.alloc.Global.{Global}
 use Rattle.std.proofs.Math.Nat.{add_assoc}
 use Rattle.std.proofs.lemmas.Option.{slice_get_cases, get_or_from_slice_get}
 use Rattle.trace_streams.specs.Pick.{pick_of}
@@ -16,7 +14,7 @@ use Rattle.chain_model.specs.Limits.{most_choices}
 use Rattle.chain_model.specs.Results.{◌>>=◌, ◌>>◌, refuse_if, each}
 use Rattle.chain_model.specs.States.{State}
 use Rattle.chain_model.specs.Choices.{choices_of}
-use Rattle.chain_model.specs.Step.{Configuration, no_choice, choice_of, is_drawn, draws_for, command_draws, step_draws, branches_of, assignment_of, all_sets, after_assignments, step_of}
+use Rattle.chain_model.specs.Step.{Configuration, no_choice, choice_of, is_drawn, draws_for, command_draws, branches_of, assignment_of, all_sets, after_assignments, step_of}
 use Rattle.chain_model.proofs.DrawLemmas.{choices_few}
 use Rattle.trace_meaning.specs.declared.fault.StepFault.{StepFault}
 use Rattle.trace_meaning.specs.declared.fault.StepFault.TheVariants.{Trace, OutOfMemory}

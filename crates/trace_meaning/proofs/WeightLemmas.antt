@@ -1,10 +1,8 @@
 -- Weights over their least common denominator.
-use Rattle.std.proofs.Common.{◌≡◌, ◌==◌, ℕ, zero, suc, ◌+◌, ◌-◌, ◌*◌, ◌/◌, ◌<◌, ◌≤◌, List, [], ◌∷◌, length, get_or, drop, Bool, true, false, All, refl, sym, ap, ◌∙◌, subst, arith, add-one, nat_lt, mul_comm, mul-one}
-use Rattle.std.specs.Prelude.{sum, fold, unsigned_abs, if◌then◌else◌, Result, Ok, Err}
-use Rattle.std.specs.Int.{◌∣◌}
+use Rattle.std.proofs.Common.{◌≡◌, ℕ, zero, suc, ◌+◌, ◌*◌, ◌/◌, ◌<◌, ◌≤◌, List, [], ◌∷◌, length, get_or, drop, All, refl, sym, ap, ◌∙◌, arith, nat_lt}
+use Rattle.std.specs.Prelude.{sum, fold, unsigned_abs, if◌then◌else◌}
 use Rattle.std.proofs.Math.Nat.{mul-div-le}
 use native.Mathlib.Nat.{div-mul_cancel, zero-mul, mul-suc}
-use Rattle.std.proofs.lemmas.Bool.{cond-true, cond-false, lt-ltb, le-ltb}
 use Rattle.std.proofs.lemmas.List.{at_drop_more}
 use Rattle.std.proofs.lemmas.List.Sums.{sum_by-cons}
 use Rattle.std.proofs.lemmas.List.Elements.{All-get_or, All-head, All-tail, All-drop}

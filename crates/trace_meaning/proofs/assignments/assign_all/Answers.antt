@@ -1,5 +1,5 @@
 -- One branch further.
-use Rattle.std.proofs.Common.{◌+◌, ℕ, List, drop, Ok, Err, ap, sym, ◌∙◌, arith}
+use Rattle.std.proofs.Common.{◌+◌, drop, Ok, Err, ap, sym, ◌∙◌, arith}
 use Rattle.chain_model.specs.States.{State}
 use Rattle.chain_model.specs.Step.{all_sets}
 use Rattle.trace_meaning.specs.Assigning.{assigned_to}

@@ -1,5 +1,5 @@
 -- The branch follows from the weights that were read.
-use Rattle.std.proofs.Common.{◌≡◌, ◌≤◌, ◌+◌, ◌^◌, ℕ, List, length, Ok, Err, ap, sym, ◌∙◌, subst, arith}
+use Rattle.std.proofs.Common.{◌≤◌, ◌+◌, ◌^◌, ℕ, List, length, Ok, Err, ap, sym, ◌∙◌, subst, arith}
 use Rattle.smc_num.specs.Fraction.{Fraction}
 use Rattle.trace_streams.specs.Draws.{draw_at}
 use Rattle.chain_model.specs.declared.chain.Arm.{Arm}

@@ -1,8 +1,7 @@
 -- A step follows from its choice, its branches and what they assign.
-use Rattle.std.proofs.Common.{◌≡◌, ◌+◌, ℕ, List, Ok, Err, map, ap, sym, ◌∙◌, subst}
-use Rattle.std.specs.Prelude.{sum, Result}
+use Rattle.std.proofs.Common.{◌+◌, ℕ, List, Err, map, ap, sym, ◌∙◌, subst}
+use Rattle.std.specs.Prelude.{sum}
 use Rattle.trace_streams.specs.Draws.{Place, draw_at}
-use Rattle.chain_model.specs.declared.outcome.TraceFault.{TraceFault}
 use Rattle.chain_model.specs.States.{State}
 use Rattle.chain_model.specs.Step.{all_sets, branches_of, command_draws}
 use Rattle.trace_meaning.specs.Assigning.{assigned_to}
