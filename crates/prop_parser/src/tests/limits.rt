@@ -19,7 +19,13 @@ static NESTED: [(&str, &str, u32, &str, &str); 13] = [
     ("; ", "(", 65, "ctmc", "unsupported ctmc at 67"),
     ("; ", "(", 65, "", "too deep at 66"),
     // closed parentheses count below nothing, also in a rewards block
-    ("rewards ) endrewards ", "(", 65, "", "not in the grammar at 0"),
+    (
+        "rewards ) endrewards ",
+        "(",
+        65,
+        "",
+        "not in the grammar at 0",
+    ),
     ("rewards ) endrewards ", "(", 66, "", "too deep at 86"),
 ];
 
