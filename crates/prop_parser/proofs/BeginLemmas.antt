@@ -1,5 +1,5 @@
 -- Tokens begin each line of a property exactly where they are a prefix of one of its texts.
-use Rattle.std.proofs.Common.{◌≡◌, ℕ, List, [], ◌∷◌, ◌++◌, Option, Some, refl, ap, subst}
+use Rattle.std.proofs.Common.{◌≡◌, List, [], ◌∷◌, ◌++◌, Option, Some, refl, subst}
 use Rattle.smc_num.specs.Fraction.{Fraction}
 use Rattle.prism_syntax.specs.declared.labels.Labels.TheVariants.{Allowed}
 use Rattle.prism_syntax.specs.declared.precedence.Precedence.{Precedence}
