@@ -7,8 +7,6 @@ use Rattle.prism_syntax.specs.declared.expressions.Func.{Func}
 use Rattle.prism_syntax.specs.declared.expressions.Func.TheVariants as f
 use Rattle.prism_syntax.specs.declared.expressions.Op.{Op}
 use Rattle.prism_syntax.specs.declared.expressions.Op.TheVariants as o
-use Rattle.prism_syntax.specs.declared.precedence.Precedence.{Precedence}
-use Rattle.prism_syntax.specs.declared.precedence.Precedence.TheVariants as rule
 use Rattle.prism_syntax.specs.Spelling.{spelling_of}
 use Rattle.prism_syntax.specs.Tokens.{IsToken, IsFree}
 use Rattle.prism_syntax.specs.Tokens as token
@@ -31,22 +29,7 @@ function_is_token f.Ceil = token.name (codes "ceil") refl (free_from (codes "cei
 function_is_token f.Pow = token.name (codes "pow") refl (free_from (codes "pow") refl)
 function_is_token f.Mod = token.name (codes "mod") refl (free_from (codes "mod") refl)
 
--- a token that is read as an operator is the operator's, at its level
-pub operator_is_token : (level : Precedence) (t : Kind) (op : Op) → operator level t ≡ Some op → (level ≡ operator_level op) × (t ≡ operator_token op)
-operator_is_token rule.Conditional t op is = absurd (none-some op is)
-operator_is_token rule.Implication t op is = search rules
-operator_is_token rule.Equivalence t op is = search rules
-operator_is_token rule.Disjunction t op is = search rules
-operator_is_token rule.Conjunction t op is = search rules
-operator_is_token rule.Negation t op is = absurd (none-some op is)
-operator_is_token rule.Equality t op is = search rules
-operator_is_token rule.Relation t op is = search rules
-operator_is_token rule.Sum t op is = search rules
-operator_is_token rule.Product t op is = search rules
-operator_is_token rule.Unary t op is = absurd (none-some op is)
-operator_is_token rule.Primary t op is = absurd (none-some op is)
-
--- and the token of an operator is read as it, at its level
+-- the token of an operator is read as it, at its level
 pub token_is_operator : (op : Op) → operator (operator_level op) (operator_token op) ≡ Some op
 token_is_operator o.Imp = refl
 token_is_operator o.Iff = refl

