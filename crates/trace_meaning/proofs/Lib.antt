@@ -1,0 +1,13 @@
+pub mod ValueLemmas
+pub mod InitialLemmas
+pub mod GuardLemmas
+pub mod DeadlockLemmas
+pub mod ResultLemmas
+pub mod CombinationLemmas
+pub mod GroupLemmas
+pub mod ListingLemmas
+pub mod ActionLemmas
+pub mod WeightLemmas
+pub mod AssignmentLemmas
+pub mod BranchLemmas
+pub mod StepLemmas

@@ -1,0 +1,29 @@
+//! The plain meaning of a chain: values, choices and steps, computed from its trees.
+#![tactic(auto)]
+
+mod assignments;
+mod branches;
+mod combinations;
+mod deadlock;
+mod enabled;
+mod fault;
+mod groups;
+mod guards;
+mod labels;
+mod listing;
+mod step;
+mod values;
+mod weights;
+
+pub use chain_model::{Choice, Taken};
+pub use deadlock::eval;
+pub use fault::StepFault;
+pub use listing::choices;
+pub use step::plain_step;
+
+#[cfg(test)]
+mod fixtures;
+#[cfg(test)]
+mod step_tests;
+#[cfg(test)]
+mod value_tests;

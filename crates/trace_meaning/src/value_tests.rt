@@ -1,0 +1,469 @@
+//! Values of expressions, worked out by hand.
+
+use super::*;
+use crate::fixtures::{Command, STAYS, Tree, chain, typed};
+use chain_model::{Chain, Form, Func, Op, Sort, TraceFault, Typed, Value};
+use smc_num::Frac;
+use sqlite_items::{Boxed, Items};
+use std::alloc::{AllocError, Global};
+use std::test::Fail;
+
+/// A value or a fault.
+#[derive(Clone, Copy)]
+enum Gives {
+    Truth(bool),
+    Number(i64, i64),
+    Fault(TraceFault),
+}
+
+fn given(gives: &Gives) -> Result<Value, TraceFault> {
+    match gives {
+        Gives::Truth(holds) => Ok(Value::Bool(*holds)),
+        Gives::Number(num, den) => match Frac::new(*num, *den) {
+            Ok(number) => Ok(Value::Num(number)),
+            Err(_) => Err(TraceFault::Choices),
+        },
+        Gives::Fault(fault) => Err(*fault),
+    }
+}
+
+/// A chain without a command.
+fn empty(alloc: Global) -> Result<Option<Chain>, AllocError> {
+    chain(alloc, 2, &[], &[])
+}
+
+const YES: Option<Tree> = Some(Tree::Truth(true));
+
+const NO: Option<Tree> = Some(Tree::Truth(false));
+
+const ONE: Option<Tree> = Some(Tree::Number(1, 1));
+
+const TWO: Option<Tree> = Some(Tree::Number(2, 1));
+
+const THREE: Option<Tree> = Some(Tree::Number(3, 1));
+
+const HALF: Option<Tree> = Some(Tree::Number(1, 2));
+
+const THIRD: Option<Tree> = Some(Tree::Number(1, 3));
+
+const MOST: Option<Tree> = Some(Tree::Number(GREATEST, 1));
+
+const FAULT: Option<Tree> = Some(Tree::Fault);
+
+const BROKEN: Option<Tree> = Some(Tree::FaultTruth);
+
+const GREATEST: i64 = 4_611_686_018_427_387_903;
+
+const ZERO_DIVISOR: Gives = Gives::Fault(TraceFault::ZeroDivisor);
+
+const OUT_OF_LIMIT: Gives = Gives::Fault(TraceFault::OutOfLimit);
+
+const OUTSIDE: Gives = Gives::Fault(TraceFault::OutsideDomain);
+
+/// Operands, operators between them, and what the level gives.
+static LEVELS: [(
+    Option<Tree>,
+    Option<Tree>,
+    Option<Tree>,
+    Option<Op>,
+    Option<Op>,
+    Gives,
+); 33] = [
+    (HALF, THIRD, None, Some(Op::Add), None, Gives::Number(5, 6)),
+    (
+        ONE,
+        TWO,
+        THREE,
+        Some(Op::Sub),
+        Some(Op::Sub),
+        Gives::Number(-4, 1),
+    ),
+    (
+        ONE,
+        TWO,
+        THREE,
+        Some(Op::Sub),
+        Some(Op::Add),
+        Gives::Number(2, 1),
+    ),
+    (
+        ONE,
+        TWO,
+        THREE,
+        Some(Op::Div),
+        Some(Op::Div),
+        Gives::Number(1, 6),
+    ),
+    (
+        ONE,
+        TWO,
+        THREE,
+        Some(Op::Div),
+        Some(Op::Mul),
+        Gives::Number(3, 2),
+    ),
+    (HALF, TWO, None, Some(Op::Mul), None, Gives::Number(1, 1)),
+    (MOST, ONE, ONE, Some(Op::Add), Some(Op::Sub), OUT_OF_LIMIT),
+    (
+        MOST,
+        ONE,
+        ONE,
+        Some(Op::Sub),
+        Some(Op::Add),
+        Gives::Number(GREATEST, 1),
+    ),
+    (MOST, ONE, FAULT, Some(Op::Add), Some(Op::Add), OUT_OF_LIMIT),
+    (ONE, FAULT, MOST, Some(Op::Add), Some(Op::Mul), ZERO_DIVISOR),
+    (ONE, TWO, None, Some(Op::Lt), None, Gives::Truth(true)),
+    (HALF, THIRD, None, Some(Op::Lt), None, Gives::Truth(false)),
+    (TWO, TWO, None, Some(Op::Le), None, Gives::Truth(true)),
+    (TWO, TWO, None, Some(Op::Gt), None, Gives::Truth(false)),
+    (THREE, TWO, None, Some(Op::Gt), None, Gives::Truth(true)),
+    (ONE, TWO, None, Some(Op::Ge), None, Gives::Truth(false)),
+    (TWO, TWO, None, Some(Op::Eq), None, Gives::Truth(true)),
+    (NO, YES, None, Some(Op::Eq), None, Gives::Truth(false)),
+    (
+        ONE,
+        TWO,
+        YES,
+        Some(Op::Eq),
+        Some(Op::Eq),
+        Gives::Truth(false),
+    ),
+    (
+        ONE,
+        TWO,
+        YES,
+        Some(Op::Ne),
+        Some(Op::Eq),
+        Gives::Truth(true),
+    ),
+    (NO, BROKEN, None, Some(Op::And), None, Gives::Truth(false)),
+    (
+        YES,
+        NO,
+        BROKEN,
+        Some(Op::And),
+        Some(Op::And),
+        Gives::Truth(false),
+    ),
+    (YES, BROKEN, NO, Some(Op::And), Some(Op::And), ZERO_DIVISOR),
+    (YES, BROKEN, None, Some(Op::Or), None, Gives::Truth(true)),
+    (NO, NO, YES, Some(Op::Or), Some(Op::Or), Gives::Truth(true)),
+    (NO, BROKEN, YES, Some(Op::Or), Some(Op::Or), ZERO_DIVISOR),
+    (NO, BROKEN, None, Some(Op::Imp), None, Gives::Truth(true)),
+    (YES, BROKEN, None, Some(Op::Imp), None, ZERO_DIVISOR),
+    (YES, NO, None, Some(Op::Imp), None, Gives::Truth(false)),
+    (BROKEN, NO, None, Some(Op::Imp), None, ZERO_DIVISOR),
+    (
+        NO,
+        NO,
+        NO,
+        Some(Op::Iff),
+        Some(Op::Iff),
+        Gives::Truth(false),
+    ),
+    (
+        NO,
+        YES,
+        NO,
+        Some(Op::Iff),
+        Some(Op::Iff),
+        Gives::Truth(true),
+    ),
+    (NO, NO, BROKEN, Some(Op::Iff), Some(Op::Iff), ZERO_DIVISOR),
+];
+
+fn level(alloc: Global, parts: &[Option<Tree>], ops: &[Option<Op>]) -> Result<Typed, AllocError> {
+    let mut operators = Items::new(alloc);
+    for op in ops {
+        if let Some(op) = op {
+            operators.push(*op)?;
+        }
+    }
+    Ok(Typed {
+        sort: Sort::Double,
+        form: Form::Level(trees(alloc, parts)?, operators),
+    })
+}
+
+fn trees(alloc: Global, parts: &[Option<Tree>]) -> Result<Items<Typed>, AllocError> {
+    let mut trees = Items::new(alloc);
+    for part in parts {
+        if let Some(tree) = part {
+            trees.push(typed(alloc, *tree)?)?;
+        }
+    }
+    Ok(trees)
+}
+
+#[test]
+fn levels_are_folded_from_the_left(rt: HostRuntime) -> Result<(), Fail> {
+    let alloc = rt.alloc();
+    let Some(chain) = empty(alloc)? else {
+        panic!(rt; "the parts are a chain");
+    };
+    for (first, second, third, op, next, gives) in &LEVELS {
+        let tree = level(alloc, &[*first, *second, *third], &[*op, *next])?;
+        assert!(rt; eval(&tree, &chain, &[0, 0]) == given(gives));
+    }
+    Ok(())
+}
+
+/// A function, its parts, and what the call gives.
+static CALLS: [(Func, Option<Tree>, Option<Tree>, Option<Tree>, Gives); 17] = [
+    (Func::Min, THREE, TWO, ONE, Gives::Number(1, 1)),
+    (
+        Func::Min,
+        Some(Tree::Number(1, 2)),
+        Some(Tree::Number(-1, 3)),
+        None,
+        Gives::Number(-1, 3),
+    ),
+    (Func::Max, ONE, THREE, TWO, Gives::Number(3, 1)),
+    (Func::Max, ONE, TWO, Some(Tree::Fault), ZERO_DIVISOR),
+    (
+        Func::Floor,
+        Some(Tree::Number(-1, 2)),
+        None,
+        None,
+        Gives::Number(-1, 1),
+    ),
+    (
+        Func::Floor,
+        Some(Tree::Number(7, 2)),
+        None,
+        None,
+        Gives::Number(3, 1),
+    ),
+    (
+        Func::Ceil,
+        Some(Tree::Number(-1, 2)),
+        None,
+        None,
+        Gives::Number(0, 1),
+    ),
+    (
+        Func::Ceil,
+        Some(Tree::Number(7, 2)),
+        None,
+        None,
+        Gives::Number(4, 1),
+    ),
+    (
+        Func::Pow,
+        Some(Tree::Number(-1, 2)),
+        THREE,
+        None,
+        Gives::Number(-1, 8),
+    ),
+    (
+        Func::Pow,
+        Some(Tree::Number(0, 1)),
+        Some(Tree::Number(0, 1)),
+        None,
+        Gives::Number(1, 1),
+    ),
+    (
+        Func::Pow,
+        Some(Tree::Number(0, 1)),
+        Some(Tree::Number(-1, 1)),
+        None,
+        OUTSIDE,
+    ),
+    (
+        Func::Pow,
+        TWO,
+        Some(Tree::Number(61, 1)),
+        None,
+        Gives::Number(2_305_843_009_213_693_952, 1),
+    ),
+    (
+        Func::Pow,
+        TWO,
+        Some(Tree::Number(62, 1)),
+        None,
+        Gives::Fault(TraceFault::OutOfLimit),
+    ),
+    (
+        Func::Mod,
+        Some(Tree::Number(-1, 1)),
+        THREE,
+        None,
+        Gives::Number(2, 1),
+    ),
+    (
+        Func::Mod,
+        Some(Tree::Number(7, 1)),
+        THREE,
+        None,
+        Gives::Number(1, 1),
+    ),
+    (Func::Mod, ONE, Some(Tree::Number(0, 1)), None, ZERO_DIVISOR),
+    (Func::Mod, ONE, Some(Tree::Number(-3, 1)), None, OUTSIDE),
+];
+
+fn call(alloc: Global, func: Func, parts: &[Option<Tree>]) -> Result<Typed, AllocError> {
+    Ok(Typed {
+        sort: Sort::Double,
+        form: Form::Call(func, trees(alloc, parts)?),
+    })
+}
+
+#[test]
+fn functions_give_what_the_table_says(rt: HostRuntime) -> Result<(), Fail> {
+    let alloc = rt.alloc();
+    let Some(chain) = empty(alloc)? else {
+        panic!(rt; "the parts are a chain");
+    };
+    for (func, first, second, third, gives) in &CALLS {
+        let tree = call(alloc, *func, &[*first, *second, *third])?;
+        assert!(rt; eval(&tree, &chain, &[0, 0]) == given(gives));
+    }
+    Ok(())
+}
+
+fn conditional(
+    alloc: Global,
+    condition: Typed,
+    first: Typed,
+    second: Typed,
+) -> Result<Typed, AllocError> {
+    Ok(Typed {
+        sort: second.sort,
+        form: Form::If(
+            Boxed::new(alloc, condition)?,
+            Boxed::new(alloc, first)?,
+            Boxed::new(alloc, second)?,
+        ),
+    })
+}
+
+/// A condition, two parts, and what the conditional gives where the variables are 3 and 2.
+static CONDITIONALS: [(Tree, Tree, Tree, Gives); 6] = [
+    (
+        Tree::Truth(true),
+        Tree::Number(1, 1),
+        Tree::Fault,
+        Gives::Number(1, 1),
+    ),
+    (
+        Tree::Truth(false),
+        Tree::Fault,
+        Tree::Number(1, 1),
+        Gives::Number(1, 1),
+    ),
+    (
+        Tree::Truth(true),
+        Tree::Fault,
+        Tree::Number(1, 1),
+        ZERO_DIVISOR,
+    ),
+    (
+        Tree::FaultTruth,
+        Tree::Number(1, 1),
+        Tree::Number(1, 1),
+        ZERO_DIVISOR,
+    ),
+    (
+        Tree::Is(1, 2),
+        Tree::Var(0),
+        Tree::Plus(0, 1),
+        Gives::Number(3, 1),
+    ),
+    (
+        Tree::Is(1, 1),
+        Tree::Var(0),
+        Tree::Plus(0, 1),
+        Gives::Number(4, 1),
+    ),
+];
+
+#[test]
+fn conditionals_read_the_part_that_they_pick(rt: HostRuntime) -> Result<(), Fail> {
+    let alloc = rt.alloc();
+    let Some(chain) = empty(alloc)? else {
+        panic!(rt; "the parts are a chain");
+    };
+    for (condition, first, second, gives) in &CONDITIONALS {
+        let condition = typed(alloc, *condition)?;
+        let tree = conditional(
+            alloc,
+            condition,
+            typed(alloc, *first)?,
+            typed(alloc, *second)?,
+        )?;
+        assert!(rt; eval(&tree, &chain, &[3, 2]) == given(gives));
+    }
+    Ok(())
+}
+
+/// Two modules with an action that each offers where its variable is 1, and a command of the second without an action
+/// where its variable is 3. A guard faults in no state.
+static SYNCHRONISED: [Command; 3] = [
+    Command {
+        action: Some(0),
+        guard: Tree::Is(0, 1),
+        ..STAYS
+    },
+    Command {
+        module: 1,
+        action: Some(0),
+        guard: Tree::Is(1, 1),
+        ..STAYS
+    },
+    Command {
+        module: 1,
+        guard: Tree::Is(1, 3),
+        ..STAYS
+    },
+];
+
+/// A label, the values of the variables, and whether the label holds.
+static LABELS: [(Tree, [i64; 2], Gives); 7] = [
+    (Tree::Init, [0, 0], Gives::Truth(true)),
+    (Tree::Init, [0, 1], Gives::Truth(false)),
+    (Tree::Deadlock, [0, 0], Gives::Truth(true)),
+    (Tree::Deadlock, [1, 0], Gives::Truth(true)),
+    (Tree::Deadlock, [0, 1], Gives::Truth(true)),
+    (Tree::Deadlock, [1, 1], Gives::Truth(false)),
+    (Tree::Deadlock, [0, 3], Gives::Truth(false)),
+];
+
+#[test]
+fn labels_speak_of_the_state(rt: HostRuntime) -> Result<(), Fail> {
+    let alloc = rt.alloc();
+    let Some(chain) = chain(alloc, 2, &[0, 1], &SYNCHRONISED)? else {
+        panic!(rt; "the parts are a chain");
+    };
+    for (label, state, gives) in &LABELS {
+        let tree = typed(alloc, *label)?;
+        assert!(rt; eval(&tree, &chain, state) == given(gives));
+    }
+    Ok(())
+}
+
+/// A command whose guard faults.
+static FAULTS: [Command; 1] = [Command {
+    guard: Tree::FaultTruth,
+    ..STAYS
+}];
+
+/// What is told of that guard.
+static TOLD: [(Tree, Gives); 3] = [
+    (Tree::Deadlock, ZERO_DIVISOR),
+    (Tree::Init, Gives::Truth(true)),
+    (Tree::Var(0), Gives::Number(0, 1)),
+];
+
+#[test]
+fn a_guard_that_faults_is_told_only_where_deadlock_is_read(rt: HostRuntime) -> Result<(), Fail> {
+    let alloc = rt.alloc();
+    let Some(chain) = chain(alloc, 1, &[], &FAULTS)? else {
+        panic!(rt; "the parts are a chain");
+    };
+    for (tree, gives) in &TOLD {
+        assert!(rt; eval(&typed(alloc, *tree)?, &chain, &[0]) == given(gives));
+    }
+    Ok(())
+}
