@@ -1,8 +1,8 @@
 //! The names that stand in trees of the modelling language, and the first of a list with something to be told.
 #![tactic(auto)]
 
-mod names;
+mod expressions;
 mod repeated;
 
-pub use names::names;
+pub use expressions::names;
 pub use repeated::first_repeated;
