@@ -1,13 +1,12 @@
 -- Ways through a graph, and what an order or a first cycle says of them.
-use Rattle.std.proofs.Common.{◌≡◌, ◌≢◌, ℕ, zero, suc, ◌+◌, ◌<◌, List, [], length, get_or, take, Contains, All, arith, refl, sym, ap, ◌∙◌, subst}
-use Rattle.std.specs.Prelude.{◌⊎◌, Some, slice_get}
+use Rattle.std.proofs.Common.{◌≡◌, ℕ, zero, suc, ◌<◌, List, [], length, get_or, take, Contains, All, arith, sym, ap, ◌∙◌, subst}
+use Rattle.std.specs.Prelude.{Some, slice_get}
 use mathlib.Core.Logic.{inl, inr}
 use Rattle.std.proofs.lemmas.Bool.{cases_lt}
 use Rattle.std.proofs.lemmas.List.{get_or_past, get_or_default, get_or-take, length-take}
 use Rattle.std.proofs.lemmas.List.Elements.{All-contains, All-get_or}
 use Rattle.std.proofs.lemmas.Option.{slice_get-get_or}
 use Rattle.name_graph.specs.Graph.{Graph, Uses, IsGraph, Reaches, IsOrder, OrdersHaveNoCycle}
-use Rattle.name_graph.proofs.MarkLemmas.{same_or_not}
 
 -- what uses another is within
 pub user_within : (graph : Graph) (i j : ℕ) → Uses graph i j → i < length graph
@@ -64,13 +63,6 @@ pub orders_have_no_cycle : OrdersHaveNoCycle
 orders_have_no_cycle graph order is i way =
     let here = is.all i (reacher_within graph i i way) in
     descends graph order is (length order) here.0 i here.1 (slice_get-get_or order here.0 i here.1 ∙ ap Some here.2) way
-
--- none of the places below n reaches itself, and nor does this one
-pub no_cycle_more : (graph : Graph) (n : ℕ) → ((j : ℕ) → j < n → Reaches graph j j → ⊥) → (Reaches graph n n → ⊥) → (j : ℕ) → j < n + 1 → Reaches graph j j → ⊥
-no_cycle_more graph n none here j less way = elim (same_or_not j n) [
-  | inl e ↦ here (subst (λ z. Reaches graph z z) e way)
-  | inr ne ↦ none j (omega (arith, less, ne)) way
-]
 
 -- a row of a graph that code has read
 pub row_is : (graph : Graph) (i : ℕ) (row shown : List ℕ) → i < length graph → row ≡ get_or graph i row → shown ≡ row → shown ≡ get_or graph i []

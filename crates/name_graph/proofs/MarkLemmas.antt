@@ -36,9 +36,6 @@ mark_count marks j within fresh =
 pub no_marks : (n j : ℕ) → IsMarked (replicate n false) j → ⊥
 no_marks n j marked = grind (arith, common_steps, marked)
 
-pub none_marked : (n : ℕ) → unmarked (replicate n false) ≡ n
-none_marked n = grind (arith, common_steps)
-
 -- where not all are marked, one is not
 pub some_unmarked : (marks : List Bool) → 0 < unmarked marks → (j : ℕ) × (j < length marks) × (get_or marks j false ≡ false)
 some_unmarked [] more = absurd (omega (arith, more))

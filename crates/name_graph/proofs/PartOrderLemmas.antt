@@ -1,16 +1,16 @@
 -- Orders that grow by one place.
-use Rattle.std.proofs.Common.{◌≡◌, ℕ, zero, suc, ◌+◌, ◌<◌, ◌≤◌, List, [], ◌∷◌, ◌++◌, Bool, true, false, length, get_or, set, take, replicate, Contains, All, arith, refl, sym, ap, ◌∙◌, subst}
-use Rattle.std.specs.Prelude.{◌⊎◌, None, Some, slice_get}
+use Rattle.std.proofs.Common.{◌≡◌, ℕ, zero, suc, ◌+◌, ◌<◌, ◌≤◌, List, [], ◌∷◌, ◌++◌, Bool, true, false, length, get_or, set, take, Contains, All, arith, refl, sym, ap, ◌∙◌, subst}
+use Rattle.std.specs.Prelude.{◌⊎◌, Some, slice_get}
 use mathlib.Core.Logic.{inl, inr}
 use Rattle.std.proofs.lemmas.Bool.{cases_Bool}
 use Rattle.std.proofs.lemmas.Grind.{common_steps}
 use Rattle.std.proofs.lemmas.List.{get_or-set_same, take_all, take-append-le}
-use Rattle.std.proofs.lemmas.List.Elements.{Contains-push, Contains-push_cases, Contains-append_left, Contains-get_or, All-contains, All-push, All-nil}
+use Rattle.std.proofs.lemmas.List.Elements.{Contains-push, Contains-push_cases, Contains-append_left, Contains-get_or, All-contains, All-push}
 use Rattle.std.proofs.lemmas.List.Quantifiers.{all_pairs_push}
 use Rattle.std.proofs.lemmas.Option.{none-some}
 use Rattle.name_graph.specs.Graph.{Graph, Uses, IsOrder}
-use Rattle.name_graph.specs.PartOrder.{IsMarked, unmarked, IsPartOrder, IsStuckBelow, Moves}
-use Rattle.name_graph.proofs.MarkLemmas.{same_or_not, not_both, mark_kept, mark_from, mark_count, no_marks, none_marked}
+use Rattle.name_graph.specs.PartOrder.{IsMarked, IsPartOrder, IsStuckBelow, Moves}
+use Rattle.name_graph.proofs.MarkLemmas.{same_or_not, not_both, mark_kept, mark_from, mark_count}
 
 some_same : (x y : ℕ) → Some x ≡ Some y → x ≡ y
 some_same x y same = cc
@@ -55,22 +55,6 @@ part_order_more graph done order i h lt fresh all =
       size = grind (arith, common_steps, h.size);
       count = omega (arith, h.count, mark_count done i within fresh, longer);
     }
-
--- an order begins with no place
-pub part_order_none : (graph : Graph) → IsPartOrder graph (replicate (length graph) false) []
-part_order_none graph = record {
-  within = All-nil (λ i. i < length graph);
-  once = λ i j d less inside. absurd (omega (arith, inside));
-  after = λ k i j at link. absurd (none-some i (nothing k ∙ at));
-  marked = λ j s. absurd (no_marks (length graph) j s);
-  only = λ j c. absurd (omega (arith, c.1));
-  size = grind (arith, common_steps);
-  count = grind (arith, none_marked (length graph));
-}
-  where
-    nothing : (k : ℕ) → None ≡ slice_get {X = ℕ} [] k
-    nothing zero = refl
-    nothing (suc k) = refl
 
 -- an order of all places is whole
 pub whole_order : (graph : Graph) (done : List Bool) (order : List ℕ) → IsPartOrder graph done order → length graph ≤ length order → IsOrder graph order

@@ -1,13 +1,12 @@
 -- Searches for what a place reaches.
 use Rattle.std.proofs.Common.{◌≡◌, ℕ, ◌+◌, ◌<◌, List, [], ◌∷◌, ◌++◌, Bool, true, false, length, get_or, set, take, replicate, Contains, arith, refl, sym, ap, add-one, ◌∙◌, subst, ◌↔◌}
-use Rattle.std.specs.Prelude.{◌⊎◌}
 use mathlib.Core.Logic.{inl, inr}
 use Rattle.std.proofs.lemmas.Grind.{common_steps}
 use Rattle.std.proofs.lemmas.List.{get_or-set_same}
 use Rattle.std.proofs.lemmas.List.Elements.{Contains-push, Contains-push_cases, Contains-append_left}
 use Rattle.std.proofs.Math.Seq.{take-suc}
 use Rattle.name_graph.specs.Graph.{Graph, Uses, Reaches}
-use Rattle.name_graph.specs.PartOrder.{IsMarked, unmarked}
+use Rattle.name_graph.specs.PartOrder.{IsMarked}
 use Rattle.name_graph.specs.Search.{Adds, IsSearch}
 use Rattle.name_graph.proofs.MarkLemmas.{marked_within, mark_kept, mark_from, mark_count, no_marks}
 use Rattle.name_graph.proofs.GraphLemmas.{reaches_then}
