@@ -13,3 +13,6 @@ pub use numbers::{
     variable_value, whole_value,
 };
 pub use operators::{both_result, left_result};
+
+#[cfg(test)]
+mod tests;

@@ -22,6 +22,8 @@ pub use listing::choices;
 pub use step::plain_step;
 
 #[cfg(test)]
+mod depth_tests;
+#[cfg(test)]
 mod fixtures;
 #[cfg(test)]
 mod step_tests;

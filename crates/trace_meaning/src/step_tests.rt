@@ -3,9 +3,9 @@
 //! 0, 0, 1, 1, of three 1, 0, 2, 2 and of five 1, 1, 3, 4.
 
 use super::*;
-use crate::fixtures::{Branch, Command, STAYS, SURE, Tree, chain};
+use crate::fixtures::{Branch, Command, STAYS, Tree, chain};
 use chain_model::{Chain, TraceFault};
-use std::alloc::Global;
+use std::alloc::{AllocError, Global};
 use std::test::Fail;
 use trace_streams::Draws;
 
@@ -38,225 +38,160 @@ fn step_from(
 
 const HALF: Tree = Tree::Number(1, 2);
 
-/// A command, the place of the draws, what a step gives where the variables are 1 and 2, and the place afterwards.
-static STEPS: [(Command, u64, Result<(i64, i64), TraceFault>, u64); 14] = [
+/// A weight, and what the first variable is assigned.
+type Way = (Tree, Tree);
+
+/// One branch or two of a command, the place of the draws, what a step gives where the variables are 1 and 2, and the
+/// place afterwards.
+static STEPS: [(Way, Option<Way>, u64, Result<(i64, i64), TraceFault>, u64); 13] = [
     (
-        Command {
-            guard: Tree::Truth(false),
-            ..STAYS
-        },
-        0,
-        Ok((1, 2)),
-        0,
-    ),
-    (
-        Command {
-            first: Branch {
-                weight: Tree::Number(1, 1),
-                set: Some((0, Tree::Plus(0, 1))),
-            },
-            ..STAYS
-        },
+        (Tree::Number(1, 1), Tree::Plus(0, 1)),
+        None,
         0,
         Ok((2, 2)),
         0,
     ),
     (
-        Command {
-            first: Branch {
-                weight: HALF,
-                set: Some((0, Tree::Plus(0, -1))),
-            },
-            second: Some(Branch {
-                weight: HALF,
-                set: Some((0, Tree::Plus(0, 2))),
-            }),
-            ..STAYS
-        },
+        (HALF, Tree::Plus(0, -1)),
+        Some((HALF, Tree::Plus(0, 2))),
         0,
         Ok((0, 2)),
         1,
     ),
     (
-        Command {
-            first: Branch {
-                weight: HALF,
-                set: Some((0, Tree::Plus(0, -1))),
-            },
-            second: Some(Branch {
-                weight: HALF,
-                set: Some((0, Tree::Plus(0, 2))),
-            }),
-            ..STAYS
-        },
+        (HALF, Tree::Plus(0, -1)),
+        Some((HALF, Tree::Plus(0, 2))),
         2,
         Ok((3, 2)),
         3,
     ),
     (
-        Command {
-            first: Branch {
-                weight: Tree::Number(1, 3),
-                set: Some((0, Tree::Number(0, 1))),
-            },
-            second: Some(Branch {
-                weight: Tree::Number(2, 3),
-                set: Some((0, Tree::Var(1))),
-            }),
-            ..STAYS
-        },
+        (Tree::Number(1, 3), Tree::Number(0, 1)),
+        Some((Tree::Number(2, 3), Tree::Var(1))),
         0,
         Ok((2, 2)),
         1,
     ),
     (
-        Command {
-            first: Branch {
-                weight: Tree::Number(1, 3),
-                set: Some((0, Tree::Number(0, 1))),
-            },
-            second: Some(Branch {
-                weight: Tree::Number(2, 3),
-                set: Some((0, Tree::Var(1))),
-            }),
-            ..STAYS
-        },
+        (Tree::Number(1, 3), Tree::Number(0, 1)),
+        Some((Tree::Number(2, 3), Tree::Var(1))),
         1,
         Ok((0, 2)),
         2,
     ),
     (
-        Command {
-            first: Branch {
-                weight: HALF,
-                set: Some((0, Tree::Var(0))),
-            },
-            second: Some(Branch {
-                weight: Tree::Number(1, 3),
-                set: Some((0, Tree::Var(0))),
-            }),
-            ..STAYS
-        },
+        (HALF, Tree::Var(0)),
+        Some((Tree::Number(1, 3), Tree::Var(0))),
         0,
         Err(TraceFault::Weights { command: 0 }),
         0,
     ),
     (
-        Command {
-            first: Branch {
-                weight: Tree::Number(3, 2),
-                set: Some((0, Tree::Var(0))),
-            },
-            second: Some(Branch {
-                weight: Tree::Fault,
-                set: Some((0, Tree::Var(0))),
-            }),
-            ..STAYS
-        },
+        (Tree::Number(3, 2), Tree::Var(0)),
+        Some((Tree::Fault, Tree::Var(0))),
         0,
         Err(TraceFault::Weights { command: 0 }),
         0,
     ),
     (
-        Command {
-            first: Branch {
-                weight: Tree::Fault,
-                set: Some((0, Tree::Var(0))),
-            },
-            second: Some(Branch {
-                weight: Tree::Number(3, 2),
-                set: Some((0, Tree::Var(0))),
-            }),
-            ..STAYS
-        },
+        (Tree::Fault, Tree::Var(0)),
+        Some((Tree::Number(3, 2), Tree::Var(0))),
         0,
         Err(TraceFault::ZeroDivisor),
         0,
     ),
     (
-        Command {
-            first: Branch {
-                weight: Tree::Number(1, 281_474_976_710_656),
-                set: Some((0, Tree::Var(1))),
-            },
-            second: Some(Branch {
-                weight: Tree::Number(281_474_976_710_655, 281_474_976_710_656),
-                set: Some((0, Tree::Var(0))),
-            }),
-            ..STAYS
-        },
+        (Tree::Number(1, LIMIT), Tree::Var(1)),
+        Some((Tree::Number(LIMIT - 1, LIMIT), Tree::Var(0))),
         0,
         Ok((1, 2)),
         1,
     ),
     (
-        Command {
-            first: Branch {
-                weight: Tree::Number(1, 281_474_976_710_657),
-                set: Some((0, Tree::Var(1))),
-            },
-            second: Some(Branch {
-                weight: Tree::Number(281_474_976_710_656, 281_474_976_710_657),
-                set: Some((0, Tree::Var(0))),
-            }),
-            ..STAYS
-        },
+        (Tree::Number(1, LIMIT + 1), Tree::Var(1)),
+        Some((Tree::Number(LIMIT, LIMIT + 1), Tree::Var(0))),
         0,
         Err(TraceFault::Denominator { command: 0 }),
         0,
     ),
     (
-        Command {
-            first: Branch {
-                weight: Tree::Number(1, 1),
-                set: Some((0, Tree::Plus(0, 3))),
-            },
-            ..STAYS
-        },
+        (Tree::Number(1, 1), Tree::Plus(0, 3)),
+        None,
         1,
         Err(TraceFault::Range { var: 0 }),
         1,
     ),
     (
-        Command {
-            first: Branch {
-                weight: HALF,
-                set: Some((0, Tree::Plus(0, -2))),
-            },
-            second: Some(SURE),
-            ..STAYS
-        },
+        (HALF, Tree::Plus(0, -2)),
+        Some((Tree::Number(1, 1), Tree::Var(0))),
         1,
         Err(TraceFault::Weights { command: 0 }),
         1,
     ),
     (
-        Command {
-            first: Branch {
-                weight: HALF,
-                set: Some((0, Tree::Plus(0, -2))),
-            },
-            second: Some(Branch {
-                weight: HALF,
-                set: Some((0, Tree::Var(0))),
-            }),
-            ..STAYS
-        },
+        (HALF, Tree::Plus(0, -2)),
+        Some((HALF, Tree::Var(0))),
         1,
         Err(TraceFault::Range { var: 0 }),
         1,
     ),
 ];
 
+/// The greatest common denominator of weights that is allowed.
+const LIMIT: i64 = 281_474_976_710_656;
+
+/// A branch that assigns the first variable.
+fn branch(way: Way) -> Branch {
+    Branch {
+        weight: way.0,
+        set: Some((0, way.1)),
+    }
+}
+
+/// What a step of a chain of two variables and one command gives, and the place of the draws afterwards.
+fn step_of(
+    alloc: Global,
+    command: Command,
+    place: u64,
+) -> Result<Option<(Result<(i64, i64), TraceFault>, u64)>, AllocError> {
+    match chain(alloc, 2, &[], &[command])? {
+        Some(chain) => Ok(step_from(alloc, &chain, &[1, 2], place)),
+        None => Ok(None),
+    }
+}
+
+/// Whether a step gives what a row says.
+fn is_taken(
+    alloc: Global,
+    row: &(Way, Option<Way>, u64, Result<(i64, i64), TraceFault>, u64),
+) -> Result<bool, AllocError> {
+    let (first, second, place, gives, after) = *row;
+    let command = Command {
+        first: branch(first),
+        second: match second {
+            Some(way) => Some(branch(way)),
+            None => None,
+        },
+        ..STAYS
+    };
+    Ok(step_of(alloc, command, place)? == Some((gives, after)))
+}
+
 #[test]
 fn a_command_takes_the_branch_that_a_draw_picks(rt: HostRuntime) -> Result<(), Fail> {
-    let alloc = rt.alloc();
-    for (command, place, gives, after) in &STEPS {
-        let Some(chain) = chain(alloc, 2, &[], &[*command])? else {
-            panic!(rt; "the parts are a chain");
-        };
-        assert!(rt; step_from(alloc, &chain, &[1, 2], *place) == Some((*gives, *after)));
+    for row in &STEPS {
+        assert!(rt; is_taken(rt.alloc(), row)?);
     }
+    Ok(())
+}
+
+#[test]
+fn a_state_without_a_choice_stays(rt: HostRuntime) -> Result<(), Fail> {
+    let command = Command {
+        guard: Tree::Truth(false),
+        ..STAYS
+    };
+    assert!(rt; step_of(rt.alloc(), command, 1)? == Some((Ok((1, 2)), 1)));
     Ok(())
 }
 
@@ -308,34 +243,54 @@ static CHOICES: [(Option<u32>, &[u32]); 5] = [
     (Some(0), &[1, 3]),
 ];
 
+/// Whether a choice is the one of its row.
+fn is_choice(choice: &Choice, row: &(Option<u32>, &[u32])) -> bool {
+    choice.action == row.0 && choice.commands.as_slice() == row.1
+}
+
+/// Whether choices are those of the table, in its order.
+fn are_choices(list: &[Choice]) -> bool {
+    list.len() == CHOICES.len()
+        && list
+            .iter()
+            .zip(&CHOICES)
+            .all(|(choice, row)| is_choice(choice, row))
+}
+
+/// Whether the five commands have the choices of the table.
+fn has_choices(alloc: Global) -> Result<bool, AllocError> {
+    let Some(chain) = chain(alloc, 3, &[0, 1], &FIVE)? else {
+        return Ok(false);
+    };
+    match choices(alloc, &chain, &[1, 2, 0], 7) {
+        Ok((count, list)) => Ok(count == 5 && are_choices(list.as_slice())),
+        Err(_) => Ok(false),
+    }
+}
+
 #[test]
 fn choices_stand_in_order(rt: HostRuntime) -> Result<(), Fail> {
-    let alloc = rt.alloc();
-    let Some(chain) = chain(alloc, 3, &[0, 1], &FIVE)? else {
-        panic!(rt; "the parts are a chain");
-    };
-    let Ok((count, list)) = choices(alloc, &chain, &[1, 2, 0], 7) else {
-        panic!(rt; "the state has choices");
-    };
-    assert!(rt; count == 5 && list.len() == 5);
-    for (choice, (action, commands)) in list.as_slice().iter().zip(&CHOICES) {
-        assert!(rt; choice.action == *action && choice.commands.as_slice() == *commands);
-    }
+    assert!(rt; has_choices(rt.alloc())?);
     Ok(())
 }
 
-/// The place of the draws and what a step of these gives where the variables are 1 and 2: the right sides are read in
-/// the old state.
-static JOINT: [(u64, (i64, i64)); 3] = [(0, (0, 0)), (2, (2, 0)), (3, (2, 1))];
+/// The place of the draws, what a step of these gives where the variables are 1 and 2, and the place afterwards: the
+/// right sides are read in the old state.
+static JOINT: [(u64, (i64, i64), u64); 3] = [(0, (0, 0), 1), (2, (2, 0), 3), (3, (2, 1), 4)];
+
+/// Whether a step of the five commands gives what a row says.
+fn is_joint(alloc: Global, row: &(u64, (i64, i64), u64)) -> Result<bool, AllocError> {
+    let (place, gives, after) = *row;
+    match chain(alloc, 3, &[0, 1], &FIVE)? {
+        Some(chain) => Ok(step_from(alloc, &chain, &[1, 2, 0], place) == Some((Ok(gives), after))),
+        None => Ok(false),
+    }
+}
 
 #[test]
 fn a_choice_is_drawn_and_read_in_the_old_state(rt: HostRuntime) -> Result<(), Fail> {
-    let alloc = rt.alloc();
-    let Some(chain) = chain(alloc, 3, &[0, 1], &FIVE)? else {
-        panic!(rt; "the parts are a chain");
-    };
-    for (place, gives) in &JOINT {
-        assert!(rt; step_from(alloc, &chain, &[1, 2, 0], *place) == Some((Ok(*gives), *place + 1)));
+    for row in &JOINT {
+        assert!(rt; is_joint(rt.alloc(), row)?);
     }
     Ok(())
 }
@@ -357,14 +312,25 @@ fn many(alloc: Global, modules: u32) -> Result<Option<Chain>, Fail> {
     Ok(chain(alloc, modules, takes.as_slice(), commands.as_slice())?)
 }
 
+/// How many modules there are, what a step gives, and the place of the draws afterwards.
+static MANY: [(u32, Result<(i64, i64), TraceFault>, u64); 2] = [
+    (48, Ok((0, 0)), 1),
+    (49, Err(TraceFault::Choices), 0),
+];
+
+/// Whether a step of so many modules gives what a row says.
+fn is_many(alloc: Global, row: &(u32, Result<(i64, i64), TraceFault>, u64)) -> Result<bool, Fail> {
+    let (modules, gives, after) = *row;
+    match many(alloc, modules)? {
+        Some(chain) => Ok(step_from(alloc, &chain, &[0; 49], 0) == Some((gives, after))),
+        None => Ok(false),
+    }
+}
+
 #[test]
 fn too_many_choices_are_a_fault(rt: HostRuntime) -> Result<(), Fail> {
-    let alloc = rt.alloc();
-    for (modules, gives, after) in [(48, Ok((0, 0)), 1), (49, Err(TraceFault::Choices), 0)] {
-        let Some(chain) = many(alloc, modules)? else {
-            panic!(rt; "the parts are a chain");
-        };
-        assert!(rt; step_from(alloc, &chain, &[0; 49], 0) == Some((gives, after)));
+    for row in &MANY {
+        assert!(rt; is_many(rt.alloc(), row)?);
     }
     Ok(())
 }

@@ -2,7 +2,7 @@
 
 use super::*;
 use crate::fixtures::{Command, STAYS, Tree, chain, typed};
-use chain_model::{Chain, Form, Func, Op, Sort, TraceFault, Typed, Value};
+use chain_model::{Form, Func, Op, Sort, TraceFault, Typed, Value};
 use smc_num::Frac;
 use sqlite_items::{Boxed, Items};
 use std::alloc::{AllocError, Global};
@@ -27,9 +27,16 @@ fn given(gives: &Gives) -> Result<Value, TraceFault> {
     }
 }
 
-/// A chain without a command.
-fn empty(alloc: Global) -> Result<Option<Chain>, AllocError> {
-    chain(alloc, 2, &[], &[])
+/// What an expression gives in a state of the chain of two variables without a command.
+fn value_in(
+    alloc: Global,
+    tree: &Typed,
+    state: [i64; 2],
+) -> Result<Option<Result<Value, TraceFault>>, AllocError> {
+    match chain(alloc, 2, &[], &[])? {
+        Some(chain) => Ok(Some(eval(tree, &chain, state.as_slice()))),
+        None => Ok(None),
+    }
 }
 
 const YES: Option<Tree> = Some(Tree::Truth(true));
@@ -61,14 +68,16 @@ const OUT_OF_LIMIT: Gives = Gives::Fault(TraceFault::OutOfLimit);
 const OUTSIDE: Gives = Gives::Fault(TraceFault::OutsideDomain);
 
 /// Operands, operators between them, and what the level gives.
-static LEVELS: [(
+type Chained = (
     Option<Tree>,
     Option<Tree>,
     Option<Tree>,
     Option<Op>,
     Option<Op>,
     Gives,
-); 33] = [
+);
+
+static LEVELS: [Chained; 33] = [
     (HALF, THIRD, None, Some(Op::Add), None, Gives::Number(5, 6)),
     (
         ONE,
@@ -197,21 +206,25 @@ fn trees(alloc: Global, parts: &[Option<Tree>]) -> Result<Items<Typed>, AllocErr
     Ok(trees)
 }
 
+/// Whether a level gives what its row says.
+fn is_folded(alloc: Global, row: &Chained) -> Result<bool, AllocError> {
+    let (first, second, third, op, next, gives) = row;
+    let tree = level(alloc, &[*first, *second, *third], &[*op, *next])?;
+    Ok(value_in(alloc, &tree, [0, 0])? == Some(given(gives)))
+}
+
 #[test]
 fn levels_are_folded_from_the_left(rt: HostRuntime) -> Result<(), Fail> {
-    let alloc = rt.alloc();
-    let Some(chain) = empty(alloc)? else {
-        panic!(rt; "the parts are a chain");
-    };
-    for (first, second, third, op, next, gives) in &LEVELS {
-        let tree = level(alloc, &[*first, *second, *third], &[*op, *next])?;
-        assert!(rt; eval(&tree, &chain, &[0, 0]) == given(gives));
+    for row in &LEVELS {
+        assert!(rt; is_folded(rt.alloc(), row)?);
     }
     Ok(())
 }
 
 /// A function, its parts, and what the call gives.
-static CALLS: [(Func, Option<Tree>, Option<Tree>, Option<Tree>, Gives); 17] = [
+type Called = (Func, Option<Tree>, Option<Tree>, Option<Tree>, Gives);
+
+static CALLS: [Called; 17] = [
     (Func::Min, THREE, TWO, ONE, Gives::Number(1, 1)),
     (
         Func::Min,
@@ -310,32 +323,34 @@ fn call(alloc: Global, func: Func, parts: &[Option<Tree>]) -> Result<Typed, Allo
     })
 }
 
+/// Whether a call gives what its row says.
+fn is_called(alloc: Global, row: &Called) -> Result<bool, AllocError> {
+    let (func, first, second, third, gives) = row;
+    let tree = call(alloc, *func, &[*first, *second, *third])?;
+    Ok(value_in(alloc, &tree, [0, 0])? == Some(given(gives)))
+}
+
 #[test]
 fn functions_give_what_the_table_says(rt: HostRuntime) -> Result<(), Fail> {
-    let alloc = rt.alloc();
-    let Some(chain) = empty(alloc)? else {
-        panic!(rt; "the parts are a chain");
-    };
-    for (func, first, second, third, gives) in &CALLS {
-        let tree = call(alloc, *func, &[*first, *second, *third])?;
-        assert!(rt; eval(&tree, &chain, &[0, 0]) == given(gives));
+    for row in &CALLS {
+        assert!(rt; is_called(rt.alloc(), row)?);
     }
     Ok(())
 }
 
+/// A conditional of these parts.
 fn conditional(
     alloc: Global,
-    condition: Typed,
-    first: Typed,
-    second: Typed,
+    condition: Tree,
+    first: Tree,
+    second: Tree,
 ) -> Result<Typed, AllocError> {
+    let condition = Boxed::new(alloc, typed(alloc, condition)?)?;
+    let first = Boxed::new(alloc, typed(alloc, first)?)?;
+    let second = Boxed::new(alloc, typed(alloc, second)?)?;
     Ok(Typed {
-        sort: second.sort,
-        form: Form::If(
-            Boxed::new(alloc, condition)?,
-            Boxed::new(alloc, first)?,
-            Boxed::new(alloc, second)?,
-        ),
+        sort: Sort::Double,
+        form: Form::If(condition, first, second),
     })
 }
 
@@ -379,21 +394,17 @@ static CONDITIONALS: [(Tree, Tree, Tree, Gives); 6] = [
     ),
 ];
 
+/// Whether a conditional gives what its row says.
+fn is_picked(alloc: Global, row: &(Tree, Tree, Tree, Gives)) -> Result<bool, AllocError> {
+    let (condition, first, second, gives) = row;
+    let tree = conditional(alloc, *condition, *first, *second)?;
+    Ok(value_in(alloc, &tree, [3, 2])? == Some(given(gives)))
+}
+
 #[test]
 fn conditionals_read_the_part_that_they_pick(rt: HostRuntime) -> Result<(), Fail> {
-    let alloc = rt.alloc();
-    let Some(chain) = empty(alloc)? else {
-        panic!(rt; "the parts are a chain");
-    };
-    for (condition, first, second, gives) in &CONDITIONALS {
-        let condition = typed(alloc, *condition)?;
-        let tree = conditional(
-            alloc,
-            condition,
-            typed(alloc, *first)?,
-            typed(alloc, *second)?,
-        )?;
-        assert!(rt; eval(&tree, &chain, &[3, 2]) == given(gives));
+    for row in &CONDITIONALS {
+        assert!(rt; is_picked(rt.alloc(), row)?);
     }
     Ok(())
 }
@@ -430,15 +441,20 @@ static LABELS: [(Tree, [i64; 2], Gives); 7] = [
     (Tree::Deadlock, [0, 3], Gives::Truth(false)),
 ];
 
+/// Whether a label holds in a state as its row says.
+fn is_label(alloc: Global, row: &(Tree, [i64; 2], Gives)) -> Result<bool, AllocError> {
+    let (label, state, gives) = row;
+    let tree = typed(alloc, *label)?;
+    match chain(alloc, 2, &[0, 1], &SYNCHRONISED)? {
+        Some(chain) => Ok(eval(&tree, &chain, state.as_slice()) == given(gives)),
+        None => Ok(false),
+    }
+}
+
 #[test]
 fn labels_speak_of_the_state(rt: HostRuntime) -> Result<(), Fail> {
-    let alloc = rt.alloc();
-    let Some(chain) = chain(alloc, 2, &[0, 1], &SYNCHRONISED)? else {
-        panic!(rt; "the parts are a chain");
-    };
-    for (label, state, gives) in &LABELS {
-        let tree = typed(alloc, *label)?;
-        assert!(rt; eval(&tree, &chain, state) == given(gives));
+    for row in &LABELS {
+        assert!(rt; is_label(rt.alloc(), row)?);
     }
     Ok(())
 }
@@ -456,14 +472,20 @@ static TOLD: [(Tree, Gives); 3] = [
     (Tree::Var(0), Gives::Number(0, 1)),
 ];
 
+/// Whether an expression gives what its row says where that guard stands in the chain.
+fn is_told(alloc: Global, row: &(Tree, Gives)) -> Result<bool, AllocError> {
+    let (tree, gives) = row;
+    let tree = typed(alloc, *tree)?;
+    match chain(alloc, 1, &[], &FAULTS)? {
+        Some(chain) => Ok(eval(&tree, &chain, &[0]) == given(gives)),
+        None => Ok(false),
+    }
+}
+
 #[test]
 fn a_guard_that_faults_is_told_only_where_deadlock_is_read(rt: HostRuntime) -> Result<(), Fail> {
-    let alloc = rt.alloc();
-    let Some(chain) = chain(alloc, 1, &[], &FAULTS)? else {
-        panic!(rt; "the parts are a chain");
-    };
-    for (tree, gives) in &TOLD {
-        assert!(rt; eval(&typed(alloc, *tree)?, &chain, &[0]) == given(gives));
+    for row in &TOLD {
+        assert!(rt; is_told(rt.alloc(), row)?);
     }
     Ok(())
 }

@@ -50,6 +50,7 @@ pub fn value_with<L: BuiltInLabels>(
 
 /// The value of a chain, folded from the left.
 #[cycle(values)]
+#[inline(never)]
 fn level<L: BuiltInLabels>(
     labels: &L,
     state: &[i64],
@@ -98,6 +99,7 @@ fn join<L: BuiltInLabels>(
 
 /// The value of a call.
 #[cycle(values)]
+#[inline(never)]
 fn call<L: BuiltInLabels>(
     labels: &L,
     state: &[i64],
@@ -186,6 +188,7 @@ fn greatest<L: BuiltInLabels>(
 }
 
 /// The value of a variable of a sort.
+#[inline(never)]
 fn variable(sort: Sort, number: u32, state: &[i64]) -> Result<Value, TraceFault>
     ensures { result ≡ variable_value sort (unwrap_or (slice_get state.now number) (pos 0)) }
 {
@@ -196,6 +199,7 @@ fn variable(sort: Sort, number: u32, state: &[i64]) -> Result<Value, TraceFault>
 }
 
 /// The value of the label `"deadlock"`.
+#[inline(never)]
 fn deadlock<L: BuiltInLabels>(labels: &L) -> Result<Value, TraceFault>
     ensures { result ≡ deadlock_value (L.values labels.now) }
 {

@@ -1,5 +1,5 @@
 -- The groups stand for the choices.
-use Rattle.std.proofs.Common.{ℕ, List, Err, subst, ◌^◌, ◌+◌, ap, sym, ◌∙◌, min, length}
+use Rattle.std.proofs.Common.{ℕ, List, Err, subst, ◌^◌, ◌+◌, ap, sym, ◌∙◌, min, length, arith}
 use Rattle.std.specs.Prelude.{flat_map}
 use Rattle.chain_model.specs.Choices.{enabled_from}
 use Rattle.chain_model.specs.declared.chain.Act.{Act}
@@ -12,13 +12,13 @@ pub returns-then-count-clause-choices : goal.returns-then-count-clause-choices
 returns-then-count-clause-choices c =
     limited_many c.args.chain.now c.args.state.now c.total-count.result c.in-Ok.enabled c.in-Ok-groups.groups
     (ap (enabled_from 0 c.args.state.now) (sym c.as_slice.ensures) ∙ c.in-Ok.ensures) (c.in-Ok-groups.ensures ∙ ap (groups_of c.args.chain.now) c.as_slice-2.ensures)
-    (c.total-count.ensures ∙ ap (λ w. min (length (flat_map group_choices w)) (2 ^ 48 + 1)) c.as_slice-3.ensures) c.if-count.true
+    (c.total-count.ensures ∙ ap (λ w. min (length (flat_map group_choices w)) (2 ^ 48 + 1)) c.as_slice-3.ensures) (omega (arith, c.if-count.true))
 
 pub returns-clause-choices : goal.returns-clause-choices
 returns-clause-choices c =
     limited_few c.args.chain.now c.args.state.now c.total-count.result c.in-Ok.enabled c.in-Ok-groups.groups
     (ap (enabled_from 0 c.args.state.now) (sym c.as_slice.ensures) ∙ c.in-Ok.ensures) (c.in-Ok-groups.ensures ∙ ap (groups_of c.args.chain.now) c.as_slice-2.ensures)
-    (c.total-count.ensures ∙ ap (λ w. min (length (flat_map group_choices w)) (2 ^ 48 + 1)) c.as_slice-3.ensures) c.if-count.false
+    (c.total-count.ensures ∙ ap (λ w. min (length (flat_map group_choices w)) (2 ^ 48 + 1)) c.as_slice-3.ensures) (omega (arith, c.if-count.false))
 
 pub returns-in-Err-clause-choices : goal.returns-in-Err-clause-choices
 returns-in-Err-clause-choices c =
