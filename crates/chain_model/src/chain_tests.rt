@@ -171,121 +171,180 @@ fn is_taken(alloc: Global, parts: &Parts) -> Result<bool, AllocError> {
 
 const GREATEST: i64 = 4_611_686_018_427_387_903;
 
+/// The first variable, and whether the parts are a chain with it.
+type Variable = (Option<u32>, Sort, i64, i64, i64, bool);
+
+static VARIABLES: [Variable; 9] = [
+    (Some(0), Sort::Int, -2, 3, 1, true),
+    (Some(0), Sort::Int, -GREATEST, GREATEST, -GREATEST, true),
+    (Some(0), Sort::Double, -2, 3, 1, false),
+    (Some(2), Sort::Int, -2, 3, 1, false),
+    (Some(0), Sort::Int, -2, 3, 4, false),
+    (Some(0), Sort::Int, -2, 3, -3, false),
+    (Some(0), Sort::Int, -2, GREATEST + 1, 1, false),
+    (Some(0), Sort::Int, -GREATEST - 1, 3, 1, false),
+    (Some(0), Sort::Bool, 0, 1, 1, false),
+];
+
+fn is_variable_row(alloc: Global, row: &Variable) -> Result<bool, AllocError> {
+    let (owner, sort, lo, hi, init, taken) = *row;
+    let parts = Parts {
+        variable: (owner, sort, lo, hi, init),
+        ..PARTS
+    };
+    Ok(is_taken(alloc, &parts)? == taken)
+}
+
 #[test]
 fn a_variable_starts_in_its_range_and_has_a_module(rt: HostRuntime) -> Result<(), Fail> {
-    let cases = [
-        ((Some(0), Sort::Int, -2, 3, 1), true),
-        ((Some(0), Sort::Int, -GREATEST, GREATEST, -GREATEST), true),
-        ((Some(0), Sort::Double, -2, 3, 1), false),
-        ((Some(2), Sort::Int, -2, 3, 1), false),
-        ((Some(0), Sort::Int, -2, 3, 4), false),
-        ((Some(0), Sort::Int, -2, 3, -3), false),
-        ((Some(0), Sort::Int, -2, GREATEST + 1, 1), false),
-        ((Some(0), Sort::Int, -GREATEST - 1, 3, 1), false),
-        ((Some(0), Sort::Bool, 0, 1, 1), false),
-    ];
-    for (variable, taken) in cases {
-        let parts = Parts { variable, ..PARTS };
-        assert!(rt; is_taken(rt.alloc(), &parts)? == taken);
+    for row in &VARIABLES {
+        assert!(rt; is_variable_row(rt.alloc(), row)?);
     }
     Ok(())
+}
+
+const YES: Leaf = Leaf::Truth;
+
+const ONE: Leaf = Leaf::Whole(1);
+
+/// The first command's module, action, guard and weight, and whether the parts are a chain with it.
+type Command = (u32, Option<u32>, Leaf, Leaf, bool);
+
+static COMMANDS: [Command; 10] = [
+    (0, None, YES, ONE, true),
+    (
+        0,
+        None,
+        Leaf::Var(1, Sort::Bool),
+        Leaf::Var(0, Sort::Int),
+        true,
+    ),
+    (2, None, YES, ONE, false),
+    (1, None, YES, ONE, false),
+    (0, Some(1), YES, ONE, false),
+    (0, None, ONE, ONE, false),
+    (0, None, Leaf::Init, ONE, false),
+    (0, None, Leaf::Var(2, Sort::Bool), ONE, false),
+    (0, None, Leaf::Var(0, Sort::Bool), ONE, false),
+    (0, None, YES, YES, false),
+];
+
+fn is_command_row(alloc: Global, row: &Command) -> Result<bool, AllocError> {
+    let (module, action, guard, weight, taken) = *row;
+    let parts = Parts {
+        command: (module, action, guard, weight),
+        ..PARTS
+    };
+    Ok(is_taken(alloc, &parts)? == taken)
 }
 
 #[test]
 fn a_command_has_a_module_an_action_a_guard_and_weights(rt: HostRuntime) -> Result<(), Fail> {
-    let (yes, one) = (Leaf::Truth, Leaf::Whole(1));
-    let cases = [
-        ((0, None, yes, one), true),
-        (
-            (0, None, Leaf::Var(1, Sort::Bool), Leaf::Var(0, Sort::Int)),
-            true,
-        ),
-        ((2, None, yes, one), false),
-        ((1, None, yes, one), false),
-        ((0, Some(1), yes, one), false),
-        ((0, None, one, one), false),
-        ((0, None, Leaf::Init, one), false),
-        ((0, None, Leaf::Var(2, Sort::Bool), one), false),
-        ((0, None, Leaf::Var(0, Sort::Bool), one), false),
-        ((0, None, yes, yes), false),
-    ];
-    for (command, taken) in cases {
-        let parts = Parts { command, ..PARTS };
-        assert!(rt; is_taken(rt.alloc(), &parts)? == taken);
+    for row in &COMMANDS {
+        assert!(rt; is_command_row(rt.alloc(), row)?);
     }
     Ok(())
+}
+
+/// The first command's assignments, that of the command with the action, and whether the parts are a chain with them.
+type Assigned = (u32, Leaf, u32, u32, Leaf, bool);
+
+static ASSIGNMENTS: [Assigned; 5] = [
+    (0, ONE, 1, 0, ONE, true),
+    (0, YES, 1, 0, ONE, false),
+    (2, YES, 1, 0, ONE, false),
+    (1, YES, 1, 0, ONE, false),
+    (0, ONE, 1, 1, YES, false),
+];
+
+fn is_assigned_row(alloc: Global, row: &Assigned) -> Result<bool, AllocError> {
+    let (first, value, second, labelled, right, taken) = *row;
+    let parts = Parts {
+        sets: (first, value, second),
+        labelled: (labelled, right),
+        ..PARTS
+    };
+    Ok(is_taken(alloc, &parts)? == taken)
 }
 
 #[test]
 fn a_command_assigns_what_it_may_and_once(rt: HostRuntime) -> Result<(), Fail> {
-    let (yes, one) = (Leaf::Truth, Leaf::Whole(1));
-    let cases = [
-        ((0, one, 1), (0, one), true),
-        ((0, yes, 1), (0, one), false),
-        ((2, yes, 1), (0, one), false),
-        ((1, yes, 1), (0, one), false),
-        ((0, one, 1), (1, yes), false),
-    ];
-    for (sets, labelled, taken) in cases {
-        let parts = Parts {
-            sets,
-            labelled,
-            ..PARTS
-        };
-        assert!(rt; is_taken(rt.alloc(), &parts)? == taken);
+    for row in &ASSIGNMENTS {
+        assert!(rt; is_assigned_row(rt.alloc(), row)?);
     }
     Ok(())
+}
+
+/// The modules that an action takes of three, of which two have commands with it.
+fn is_taking(alloc: Global, takes: &'static [u32], taken: bool) -> Result<bool, AllocError> {
+    let parts = Parts {
+        takes,
+        counts: (1, 1, 3, 1, 1),
+        ..PARTS
+    };
+    Ok(is_taken(alloc, &parts)? == taken)
 }
 
 #[test]
 fn an_action_takes_exactly_the_modules_that_have_it(rt: HostRuntime) -> Result<(), Fail> {
-    let cases: [(&[u32], bool); 6] = [
-        (&[0, 1], true),
-        (&[], false),
-        (&[0], false),
-        (&[1, 0], false),
-        (&[0, 1, 1], false),
-        (&[0, 1, 2], false),
-    ];
-    for (takes, taken) in cases {
-        let parts = Parts {
-            takes,
-            counts: (1, 1, 3, 1, 1),
-            ..PARTS
-        };
-        assert!(rt; is_taken(rt.alloc(), &parts)? == taken);
-    }
+    let alloc = rt.alloc();
+    assert!(rt; is_taking(alloc, &[0, 1], true)?);
+    assert!(rt; is_taking(alloc, &[], false)?);
+    assert!(rt; is_taking(alloc, &[0], false)?);
+    assert!(rt; is_taking(alloc, &[1, 0], false)?);
+    assert!(rt; is_taking(alloc, &[0, 1, 1], false)?);
+    assert!(rt; is_taking(alloc, &[0, 1, 2], false)?);
     Ok(())
+}
+
+/// How many branches of the first command, actions, modules, globals, and commands of the second module there are, and
+/// whether the parts are a chain then.
+type Counts = (usize, usize, usize, usize, usize, bool);
+
+static COUNTS: [Counts; 7] = [
+    (
+        MOST_BRANCHES,
+        1,
+        MOST_MODULES,
+        MOST_VARIABLES - 1,
+        MOST_COMMANDS - 2,
+        true,
+    ),
+    (0, 1, 2, 1, 1, false),
+    (MOST_BRANCHES + 1, 1, 2, 1, 1, false),
+    (1, 2, 2, 1, 1, false),
+    (1, 1, MOST_MODULES + 1, 1, 1, false),
+    (1, 1, 2, MOST_VARIABLES, 1, false),
+    (1, 1, 2, 1, MOST_COMMANDS - 1, false),
+];
+
+fn is_counted(alloc: Global, row: &Counts) -> Result<bool, AllocError> {
+    let (branches, actions, modules, globals, commands, taken) = *row;
+    let parts = Parts {
+        counts: (branches, actions, modules, globals, commands),
+        ..PARTS
+    };
+    Ok(is_taken(alloc, &parts)? == taken)
 }
 
 #[test]
 fn a_chain_is_within_the_limits(rt: HostRuntime) -> Result<(), Fail> {
-    let cases = [
-        (
-            (
-                MOST_BRANCHES,
-                1,
-                MOST_MODULES,
-                MOST_VARIABLES - 1,
-                MOST_COMMANDS - 2,
-            ),
-            true,
-        ),
-        ((0, 1, 2, 1, 1), false),
-        ((MOST_BRANCHES + 1, 1, 2, 1, 1), false),
-        ((1, 2, 2, 1, 1), false),
-        ((1, 1, MOST_MODULES + 1, 1, 1), false),
-        ((1, 1, 2, MOST_VARIABLES, 1), false),
-        ((1, 1, 2, 1, MOST_COMMANDS - 1), false),
-    ];
-    for (counts, taken) in cases {
-        let parts = Parts { counts, ..PARTS };
-        assert!(rt; is_taken(rt.alloc(), &parts)? == taken);
+    for row in &COUNTS {
+        assert!(rt; is_counted(rt.alloc(), row)?);
     }
-    for label in [Leaf::Whole(1), Leaf::Init] {
-        let parts = Parts { label, ..PARTS };
-        assert!(rt; !is_taken(rt.alloc(), &parts)?);
-    }
+    Ok(())
+}
+
+/// Whether the parts are a chain with this label.
+fn has_label(alloc: Global, label: Leaf) -> Result<bool, AllocError> {
+    is_taken(alloc, &Parts { label, ..PARTS })
+}
+
+#[test]
+fn a_label_is_a_truth_value_of_the_variables(rt: HostRuntime) -> Result<(), Fail> {
+    assert!(rt; has_label(rt.alloc(), YES)?);
+    assert!(rt; !has_label(rt.alloc(), ONE)?);
+    assert!(rt; !has_label(rt.alloc(), Leaf::Init)?);
     Ok(())
 }
 
@@ -302,21 +361,30 @@ fn is_job(alloc: Global, kind: PathKind, second: Typed) -> Result<bool, AllocErr
     }
 }
 
+/// The kind of a path, its second state formula, and whether there is a job.
+type Made = (PathKind, Leaf, bool);
+
+static JOBS: [Made; 5] = [
+    (PathKind::Next, Leaf::Init, true),
+    (
+        PathKind::Until(MOST_HORIZON),
+        Leaf::Var(1, Sort::Bool),
+        true,
+    ),
+    (PathKind::Finally(MOST_HORIZON + 1), Leaf::Truth, false),
+    (PathKind::Finally(1), Leaf::Whole(1), false),
+    (PathKind::Finally(1), Leaf::Var(2, Sort::Bool), false),
+];
+
+fn is_made(alloc: Global, row: &Made) -> Result<bool, AllocError> {
+    let (kind, second, made) = *row;
+    Ok(is_job(alloc, kind, node(second))? == made)
+}
+
 #[test]
 fn a_job_has_a_path_over_its_chain(rt: HostRuntime) -> Result<(), Fail> {
-    let cases = [
-        (PathKind::Next, Leaf::Init, true),
-        (
-            PathKind::Until(MOST_HORIZON),
-            Leaf::Var(1, Sort::Bool),
-            true,
-        ),
-        (PathKind::Finally(MOST_HORIZON + 1), Leaf::Truth, false),
-        (PathKind::Finally(1), Leaf::Whole(1), false),
-        (PathKind::Finally(1), Leaf::Var(2, Sort::Bool), false),
-    ];
-    for (kind, second, made) in cases {
-        assert!(rt; is_job(rt.alloc(), kind, node(second))? == made);
+    for row in &JOBS {
+        assert!(rt; is_made(rt.alloc(), row)?);
     }
     Ok(())
 }
@@ -336,37 +404,39 @@ fn a_chain_starts_where_its_variables_do(rt: HostRuntime) -> Result<(), Fail> {
     Ok(())
 }
 
-/// The deepest expression that a text within the limits has: 64 signs `-`, 64 times 64 signs `!` and 1,024
-/// conditionals. The parentheses between them have no node.
-fn deepest(alloc: Global) -> Result<Typed, AllocError> {
-    let mut tree = node(Leaf::Var(0, Sort::Int));
-    for _ in 0..64 {
+/// So many signs `-` before an expression.
+fn minus(alloc: Global, tree: Typed, signs: usize) -> Result<Typed, AllocError> {
+    let mut tree = tree;
+    for _ in 0..signs {
         tree = Typed {
             sort: Sort::Int,
             form: Form::Minus(Boxed::new(alloc, tree)?),
         };
     }
-    let mut operands = Items::new(alloc);
-    operands.push(tree)?;
-    operands.push(node(Leaf::Whole(0)))?;
-    let mut operators = Items::new(alloc);
-    operators.push(Op::Eq)?;
-    tree = Typed {
-        sort: Sort::Bool,
-        form: Form::Level(operands, operators),
-    };
-    for _ in 0..64 * 64 {
+    Ok(tree)
+}
+
+/// So many signs `!` before an expression.
+fn not(alloc: Global, tree: Typed, signs: usize) -> Result<Typed, AllocError> {
+    let mut tree = tree;
+    for _ in 0..signs {
         tree = Typed {
             sort: Sort::Bool,
             form: Form::Not(Boxed::new(alloc, tree)?),
         };
     }
-    for _ in 0..1_024 {
+    Ok(tree)
+}
+
+/// So many conditionals, the last part of each the next one.
+fn conditionals(alloc: Global, tree: Typed, count: usize) -> Result<Typed, AllocError> {
+    let mut tree = tree;
+    for _ in 0..count {
         tree = Typed {
             sort: Sort::Bool,
             form: Form::If(
-                Boxed::new(alloc, node(Leaf::Truth))?,
-                Boxed::new(alloc, node(Leaf::Truth))?,
+                Boxed::new(alloc, node(YES))?,
+                Boxed::new(alloc, node(YES))?,
                 Boxed::new(alloc, tree)?,
             ),
         };
@@ -374,9 +444,33 @@ fn deepest(alloc: Global) -> Result<Typed, AllocError> {
     Ok(tree)
 }
 
+/// Whether a number is 0.
+fn is_zero(alloc: Global, tree: Typed) -> Result<Typed, AllocError> {
+    let mut operands = Items::new(alloc);
+    operands.push(tree)?;
+    operands.push(node(Leaf::Whole(0)))?;
+    let operators = Items::from_slice(alloc, &[Op::Eq])?;
+    Ok(Typed {
+        sort: Sort::Bool,
+        form: Form::Level(operands, operators),
+    })
+}
+
+/// The deepest expression that a text within the limits has: 64 signs `-`, 64 times 64 signs `!` and 1,024
+/// conditionals. The parentheses between them have no node.
+fn deepest(alloc: Global) -> Result<Typed, AllocError> {
+    let number = minus(alloc, node(Leaf::Var(0, Sort::Int)), 64)?;
+    let signed = not(alloc, is_zero(alloc, number)?, 64 * 64)?;
+    conditionals(alloc, signed, 1_024)
+}
+
+/// Whether a path formula over the deepest expression makes a job.
+fn is_deepest_job(alloc: Global) -> Result<bool, AllocError> {
+    is_job(alloc, PathKind::Next, deepest(alloc)?)
+}
+
 #[test]
 fn the_deepest_expression_is_typed_and_dropped(rt: HostRuntime) -> Result<(), Fail> {
-    let tree = deepest(rt.alloc())?;
-    assert!(rt; is_job(rt.alloc(), PathKind::Next, tree)?);
+    assert!(rt; is_deepest_job(rt.alloc())?);
     Ok(())
 }

@@ -113,44 +113,62 @@ fn level_has(
     Ok(true)
 }
 
+/// Two operands, the operator between them, and the sort.
+type Two = (Leaf, Op, Leaf, Option<Sort>);
+
+static LEVELS_OF_TWO: [Two; 11] = [
+    (ONE, Op::Add, ONE, Some(Sort::Int)),
+    (ONE, Op::Sub, HALF, Some(Sort::Double)),
+    (ONE, Op::Mul, YES, None),
+    (ONE, Op::Div, ONE, Some(Sort::Double)),
+    (ONE, Op::Lt, HALF, Some(Sort::Bool)),
+    (YES, Op::Le, YES, None),
+    (ONE, Op::Eq, HALF, Some(Sort::Bool)),
+    (YES, Op::Ne, YES, Some(Sort::Bool)),
+    (ONE, Op::Eq, YES, None),
+    (YES, Op::Imp, YES, Some(Sort::Bool)),
+    (YES, Op::Or, ONE, None),
+];
+
+fn is_level_of_two(alloc: Global, row: &Two) -> Result<bool, AllocError> {
+    let (first, op, second, sort) = *row;
+    level_has(alloc, first, op, second, None, sort)
+}
+
 #[test]
 fn levels_of_two_have_the_sort_of_the_table(rt: HostRuntime) -> Result<(), Fail> {
-    let cases = [
-        (ONE, Op::Add, ONE, Some(Sort::Int)),
-        (ONE, Op::Sub, HALF, Some(Sort::Double)),
-        (ONE, Op::Mul, YES, None),
-        (ONE, Op::Div, ONE, Some(Sort::Double)),
-        (ONE, Op::Lt, HALF, Some(Sort::Bool)),
-        (YES, Op::Le, YES, None),
-        (ONE, Op::Eq, HALF, Some(Sort::Bool)),
-        (YES, Op::Ne, YES, Some(Sort::Bool)),
-        (ONE, Op::Eq, YES, None),
-        (YES, Op::Imp, YES, Some(Sort::Bool)),
-        (YES, Op::Or, ONE, None),
-    ];
-    for (first, op, second, sort) in cases {
-        assert!(rt; level_has(rt.alloc(), first, op, second, None, sort)?);
+    for row in &LEVELS_OF_TWO {
+        assert!(rt; is_level_of_two(rt.alloc(), row)?);
     }
     Ok(())
 }
 
+/// The operand that stands twice, the two operators, the last operand, and the sort.
+type Three = (Leaf, Op, Op, Leaf, Option<Sort>);
+
+static LEVELS_OF_THREE: [Three; 11] = [
+    (ONE, Op::Div, Op::Mul, ONE, Some(Sort::Double)),
+    (ONE, Op::Mul, Op::Mul, HALF, Some(Sort::Double)),
+    (ONE, Op::Sub, Op::Add, ONE, Some(Sort::Int)),
+    (ONE, Op::Add, Op::Mul, ONE, None),
+    (ONE, Op::Lt, Op::Gt, ONE, None),
+    (YES, Op::Eq, Op::Ne, YES, Some(Sort::Bool)),
+    (ONE, Op::Eq, Op::Eq, ONE, None),
+    (ONE, Op::Eq, Op::Eq, YES, Some(Sort::Bool)),
+    (YES, Op::Imp, Op::Imp, YES, None),
+    (YES, Op::Iff, Op::Iff, YES, Some(Sort::Bool)),
+    (YES, Op::And, Op::Or, YES, None),
+];
+
+fn is_level_of_three(alloc: Global, row: &Three) -> Result<bool, AllocError> {
+    let (first, op, then, third, sort) = *row;
+    level_has(alloc, first, op, first, Some((then, third)), sort)
+}
+
 #[test]
 fn levels_of_three_have_the_sort_of_the_table(rt: HostRuntime) -> Result<(), Fail> {
-    let cases = [
-        (ONE, Op::Div, Op::Mul, ONE, Some(Sort::Double)),
-        (ONE, Op::Mul, Op::Mul, HALF, Some(Sort::Double)),
-        (ONE, Op::Sub, Op::Add, ONE, Some(Sort::Int)),
-        (ONE, Op::Add, Op::Mul, ONE, None),
-        (ONE, Op::Lt, Op::Gt, ONE, None),
-        (YES, Op::Eq, Op::Ne, YES, Some(Sort::Bool)),
-        (ONE, Op::Eq, Op::Eq, ONE, None),
-        (ONE, Op::Eq, Op::Eq, YES, Some(Sort::Bool)),
-        (YES, Op::Imp, Op::Imp, YES, None),
-        (YES, Op::Iff, Op::Iff, YES, Some(Sort::Bool)),
-        (YES, Op::And, Op::Or, YES, None),
-    ];
-    for (first, op, then, third, sort) in cases {
-        assert!(rt; level_has(rt.alloc(), first, op, first, Some((then, third)), sort)?);
+    for row in &LEVELS_OF_THREE {
+        assert!(rt; is_level_of_three(rt.alloc(), row)?);
     }
     Ok(())
 }
@@ -171,23 +189,37 @@ fn call_has(
     Ok(true)
 }
 
+/// A function, its parts, and the sort.
+type Called = (Func, Option<Leaf>, Option<Leaf>, Option<Leaf>, Option<Sort>);
+
+static CALLS: [Called; 10] = [
+    (Func::Min, Some(ONE), Some(ONE), Some(ONE), Some(Sort::Int)),
+    (
+        Func::Max,
+        Some(ONE),
+        Some(ONE),
+        Some(HALF),
+        Some(Sort::Double),
+    ),
+    (Func::Min, Some(ONE), None, None, None),
+    (Func::Max, Some(ONE), Some(YES), None, None),
+    (Func::Floor, Some(HALF), None, None, Some(Sort::Int)),
+    (Func::Ceil, Some(ONE), Some(ONE), None, None),
+    (Func::Pow, Some(HALF), Some(ONE), None, Some(Sort::Double)),
+    (Func::Pow, Some(ONE), Some(HALF), None, None),
+    (Func::Mod, Some(ONE), Some(ONE), None, Some(Sort::Int)),
+    (Func::Mod, Some(HALF), Some(ONE), None, None),
+];
+
+fn is_call(alloc: Global, row: &Called) -> Result<bool, AllocError> {
+    let (func, first, second, third, sort) = *row;
+    call_has(alloc, func, [first, second, third], sort)
+}
+
 #[test]
 fn calls_have_the_sort_of_the_table(rt: HostRuntime) -> Result<(), Fail> {
-    let (one, half, yes) = (Some(ONE), Some(HALF), Some(YES));
-    let cases = [
-        (Func::Min, [one, one, one], Some(Sort::Int)),
-        (Func::Max, [one, one, half], Some(Sort::Double)),
-        (Func::Min, [one, None, None], None),
-        (Func::Max, [one, yes, None], None),
-        (Func::Floor, [half, None, None], Some(Sort::Int)),
-        (Func::Ceil, [one, one, None], None),
-        (Func::Pow, [half, one, None], Some(Sort::Double)),
-        (Func::Pow, [one, half, None], None),
-        (Func::Mod, [one, one, None], Some(Sort::Int)),
-        (Func::Mod, [half, one, None], None),
-    ];
-    for (func, parts, sort) in cases {
-        assert!(rt; call_has(rt.alloc(), func, parts, sort)?);
+    for row in &CALLS {
+        assert!(rt; is_call(rt.alloc(), row)?);
     }
     Ok(())
 }
@@ -209,23 +241,41 @@ fn conditional_has(
     Ok(true)
 }
 
+/// A condition, the two parts, and the sort.
+type Conditional = (Leaf, Leaf, Leaf, Option<Sort>);
+
+static CONDITIONALS: [Conditional; 5] = [
+    (YES, ONE, ONE, Some(Sort::Int)),
+    (YES, ONE, HALF, Some(Sort::Double)),
+    (YES, YES, YES, Some(Sort::Bool)),
+    (YES, ONE, YES, None),
+    (ONE, ONE, ONE, None),
+];
+
+fn is_conditional(alloc: Global, row: &Conditional) -> Result<bool, AllocError> {
+    let (condition, first, second, sort) = *row;
+    conditional_has(alloc, condition, first, second, sort)
+}
+
 #[test]
-fn conditionals_and_labels_have_the_sort_of_the_table(rt: HostRuntime) -> Result<(), Fail> {
-    let cases = [
-        (YES, ONE, ONE, Some(Sort::Int)),
-        (YES, ONE, HALF, Some(Sort::Double)),
-        (YES, YES, YES, Some(Sort::Bool)),
-        (YES, ONE, YES, None),
-        (ONE, ONE, ONE, None),
-    ];
-    for (condition, first, second, sort) in cases {
-        assert!(rt; conditional_has(rt.alloc(), condition, first, second, sort)?);
-    }
-    for leaf in [Leaf::Init, Leaf::Deadlock] {
-        assert!(rt; sort_of(&[], Labels::Refused, &node(leaf)).is_none());
-        assert!(rt; sort_of(&[], Labels::Allowed, &node(leaf)) == Some(Sort::Bool));
+fn conditionals_have_the_sort_of_the_table(rt: HostRuntime) -> Result<(), Fail> {
+    for row in &CONDITIONALS {
+        assert!(rt; is_conditional(rt.alloc(), row)?);
     }
     Ok(())
+}
+
+/// Whether a label is a truth value where labels may stand, and nothing elsewhere.
+fn is_label(leaf: Leaf) -> bool {
+    let tree = node(leaf);
+    sort_of(&[], Labels::Refused, &tree).is_none()
+        && sort_of(&[], Labels::Allowed, &tree) == Some(Sort::Bool)
+}
+
+#[test]
+fn labels_are_truth_values_where_they_may_stand(rt: HostRuntime) {
+    assert!(rt; is_label(Leaf::Init));
+    assert!(rt; is_label(Leaf::Deadlock));
 }
 
 fn conditional(

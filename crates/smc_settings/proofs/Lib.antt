@@ -1,0 +1,17 @@
+pub mod CutLemmas
+pub mod PositionLemmas
+pub mod FormLemmas
+pub mod OptionLemmas
+pub mod WalkLemmas
+pub mod MatchLemmas
+pub mod DistinctLemmas
+pub mod TableLemmas
+pub mod TableFacts
+pub mod ValueLemmas
+pub mod ConstantLemmas
+pub mod HundredthLemmas
+pub mod TestLemmas
+pub mod PairsLemmas
+pub mod RangeLemmas
+pub mod SettingLemmas
+pub mod UniqueLemmas
