@@ -1,0 +1,4 @@
+pub mod EvaluatingLemmas
+pub mod AgreeLemmas
+pub mod GraphLemmas
+pub mod ResultLemmas

@@ -1,0 +1,5 @@
+pub mod Tables
+pub mod Sorting
+pub mod Evaluating
+pub mod Constants
+pub mod Refusals
