@@ -1,6 +1,6 @@
 -- Names that are gathered, counted and looked through one after another.
-use Rattle.std.proofs.Common.{◌≡◌, ℕ, ◌+◌, ◌<◌, ◌≤◌, List, [], ◌∷◌, ◌++◌, Option, Bool, true, false, length, get_or, take, drop, map, count_by, find, unwrap_or, bytes_eq, cond, rules, arith, refl, sym, ap, ◌∙◌, subst, append_assoc, nat_lt}
-use Rattle.std.specs.Prelude.{None, Some, ◌⊎◌}
+use Rattle.std.proofs.Common.{◌≡◌, ℕ, ◌+◌, ◌<◌, ◌≤◌, List, [], ◌∷◌, ◌++◌, Option, Bool, true, false, length, get_or, take, drop, map, count_by, find, unwrap_or, bytes_eq, cond, arith, refl, sym, ap, ◌∙◌, subst, append_assoc, nat_lt}
+use Rattle.std.specs.Prelude.{None, Some}
 use mathlib.Core.Logic.{inl, inr}
 use Rattle.std.specs.Bool.{Decides}
 use Rattle.std.specs.Option.{option_or}

@@ -3,6 +3,8 @@
 
 mod expressions;
 mod repeated;
+#[cfg(test)]
+mod tests;
 
 pub use expressions::names;
 pub use repeated::first_repeated;

@@ -1,4 +1,3 @@
-use Rattle.std.proofs.Common.{map}
 use Rattle.prism_names.specs.Names.{names_of}
 use Rattle.prism_names.proofs.NameLemmas.{one_more, appended_more}
 use Rattle.prism_names.proofs.expressions.+names.Goals as goal

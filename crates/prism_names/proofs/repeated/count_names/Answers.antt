@@ -1,4 +1,4 @@
-use Rattle.std.proofs.Common.{rules, ap, cond, ◌∙◌, ◌+◌, bytes_eq, unwrap_or}
+use Rattle.std.proofs.Common.{rules, ap, cond, ◌∙◌, ◌+◌, bytes_eq}
 use Rattle.std.specs.Prelude.{Some}
 use Rattle.indexmap.specs.IndexMap.{get}
 use Rattle.prism_names.proofs.NameLemmas.{one_more, counted_more}
