@@ -16,13 +16,13 @@ use Rattle.std.proofs.lemmas.Slice.Eq.{bytes_eq-Decides}
 use Rattle.prism_syntax.specs.declared.expressions.Expr.{Expr}
 use Rattle.prism_syntax.specs.declared.models.ConstText.{ConstText}
 use Rattle.prism_syntax.specs.declared.models.SortWord.TheVariants as word
-use Rattle.chain_model.specs.declared.constants.Given.{Given}
 use Rattle.chain_model.specs.Values.{Valued}
 use Rattle.prism_names.specs.First.{Name}
 use Rattle.prism_names.specs.Names.{names_of}
 use Rattle.name_graph.specs.Graph.{Graph, Uses, IsGraph, HasNoCycle}
+use Rattle.const_eval.specs.declared.consts.Constant.{Constant}
 use Rattle.const_eval.specs.Evaluating.{value_in, by_table, some_value}
-use Rattle.const_eval.specs.Constants.{const_names, given_to, definition_names, Results, result_in, result_of, AreResults, uses_of, HaveOneResult}
+use Rattle.const_eval.specs.Constants.{const_names, definition_names, Results, result_in, result_of, AreResults, uses_of, HaveOneResult}
 use Rattle.const_eval.proofs.AgreeLemmas.{AgreeOn, agrees}
 use Rattle.const_eval.proofs.GraphLemmas.{by_uses}
 
@@ -123,11 +123,11 @@ defined_agree f g None both = refl
 defined_agree f g (Some x) both = agrees f g x both
 
 -- a constant has one result where both tables agree on the names of its definition
-pub result_agrees : (given : List Given) (f g : Name → Valued) (c : ConstText) → AgreeOn f g (definition_names c) → result_of given f c ≡ result_of given g c
-result_agrees given f g c both = ap (option_map_or (λ h. Ok h.value) (given_to given c.name)) (defined_agree f g c.value both)
+pub result_agrees : (given : Name → Option Constant) (f g : Name → Valued) (c : ConstText) → AgreeOn f g (definition_names c) → result_of given f c ≡ result_of given g c
+result_agrees given f g c both = ap (option_map_or (λ h. Ok h.value) (given c.name)) (defined_agree f g c.value both)
 
 -- the result of a name in the results of constants
-pub result_in-results : (consts : List ConstText) (given : List Given) (results : Results) → AreResults consts given results → (name : Name)
+pub result_in-results : (consts : List ConstText) (given : Name → Option Constant) (results : Results) → AreResults consts given results → (name : Name)
     → result_in results name ≡ unwrap_or (option_map (result_of given (result_in results)) (const_of consts name)) some_value
 result_in-results consts given results are name = ap (λ rs. result_in rs name) are ∙ result_in-listed (result_of given (result_in results)) consts name
 
@@ -135,7 +135,7 @@ result_in-results consts given results are name = ap (λ rs. result_in rs name) 
 abbrev AgreeAt : List ConstText → (results others : Results) → ℕ → Type 0
 AgreeAt consts results others i = (name : Name) → place_of consts name ≡ Some i → result_in results name ≡ result_in others name
 
-module _ (consts : List ConstText) (given : List Given) (results others : Results) (are : AreResults consts given results) (so : AreResults consts given others) where
+module _ (consts : List ConstText) (given : Name → Option Constant) (results others : Results) (are : AreResults consts given results) (so : AreResults consts given others) where
   -- a name that is no constant
   agree_none : (name : Name) → place_of consts name ≡ None → result_in results name ≡ result_in others name
   agree_none name e =

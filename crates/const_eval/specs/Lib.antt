@@ -3,3 +3,4 @@ pub mod Sorting
 pub mod Evaluating
 pub mod Constants
 pub mod Refusals
+pub mod Listing

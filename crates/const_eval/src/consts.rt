@@ -29,6 +29,13 @@ impl Model for Consts {
 }
 
 impl Consts {
+    /// The constants of a map, in its order.
+    pub(crate) fn from_map(known: IndexMap<Text, Constant>) -> Consts
+        ensures { result ≡ known.entries }
+    {
+        Consts { known }
+    }
+
     /// What a name stands for, where it is a constant.
     pub fn get(&self, name: &Text) -> Option<Constant>
         ensures { result ≡ lookup (bytes_eq name.now) self.now }

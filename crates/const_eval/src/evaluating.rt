@@ -55,7 +55,7 @@ pub fn value(
 }
 
 /// What a name stands for; a name that the table lacks has some value.
-fn name_value(
+pub fn name_value(
     values: &IndexMap<Text, Result<Value, TraceFault>>,
     name: &Text,
 ) -> Result<Value, TraceFault>
