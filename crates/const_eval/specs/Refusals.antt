@@ -121,3 +121,9 @@ IsTold found variant told = IsOutOfMemory told ⊎ ((name : Name) × (found ≡ 
 abbrev pub HasOneRefusal : Type 0
 HasOneRefusal = (consts : List ConstText) (given : List Given) (told other : ConstFault)
     → IsRefused consts given told → IsRefused consts given other → told ≡ other
+
+-- by these tables each constant has a value, each name is a constant, and no name is given twice or has a value besides
+pub record ArePassed (consts : List ConstText) (given : List Given) (sorts : Name → Option Sort) (table : Name → Option Constant) : Type 0 where
+  pub undefined : first_undefined table consts ≡ None
+  pub unknown : option_or (first_missing (λ name. is_some (sorts name)) (given_names given)) (first_unread (λ name. is_some (sorts name)) consts) ≡ None
+  pub twice : given_twice_of consts given ≡ None
