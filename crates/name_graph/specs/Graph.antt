@@ -35,3 +35,11 @@ pub record IsOrder (graph : Graph) (order : List ℕ) : Type 0 where
   pub all : (i : ℕ) → i < length graph → Contains order i
   pub once : AllPairs (λ i j. ¬ (i ≡ j)) order
   pub after : (k i j : ℕ) → slice_get order k ≡ Some i → Uses graph i j → Contains (take k order) j
+
+-- where there is an order, no place reaches itself
+abbrev pub OrdersHaveNoCycle : Type 0
+OrdersHaveNoCycle = (graph : Graph) (order : List ℕ) → IsOrder graph order → HasNoCycle graph
+
+-- at most one place is the first that reaches itself
+abbrev pub HasOneFirstCycle : Type 0
+HasOneFirstCycle = (graph : Graph) (i j : ℕ) → IsFirstCycle graph i → IsFirstCycle graph j → i ≡ j

@@ -100,17 +100,33 @@ fn the_deepest_tree_is_copied_counted_replaced_and_let_go(rt: HostRuntime) -> Re
     Ok(())
 }
 
+/// A list of one item.
+fn one<T: Drop>(alloc: Global, item: T) -> Result<Items<T>, AllocError> {
+    let mut items = Items::new(alloc);
+    items.push(item)?;
+    Ok(items)
+}
+
+/// `x`
+fn x(alloc: Global) -> Result<Text, AllocError> {
+    Text::from_bytes(alloc, b"x")
+}
+
+/// `x:(x'=x)`
+fn branch(alloc: Global) -> Result<Branch, AllocError> {
+    let weight = Some(name(alloc, b"x")?);
+    let set = (x(alloc)?, name(alloc, b"x")?);
+    Ok(Branch {
+        weight,
+        sets: one(alloc, set)?,
+    })
+}
+
 /// `[x] x -> x:(x'=x);`
 fn command(alloc: Global) -> Result<Command, AllocError> {
-    let mut sets = Items::new(alloc);
-    sets.push((Text::from_bytes(alloc, b"x")?, name(alloc, b"x")?))?;
-    let mut branches = Items::new(alloc);
-    branches.push(Branch {
-        weight: Some(name(alloc, b"x")?),
-        sets,
-    })?;
+    let branches = one(alloc, branch(alloc)?)?;
     Ok(Command {
-        action: Some(Text::from_bytes(alloc, b"x")?),
+        action: Some(x(alloc)?),
         guard: name(alloc, b"x")?,
         branches,
     })
@@ -118,72 +134,69 @@ fn command(alloc: Global) -> Result<Command, AllocError> {
 
 /// `x:[x..x];`
 fn variable(alloc: Global) -> Result<Variable, AllocError> {
+    let range = (name(alloc, b"x")?, name(alloc, b"x")?);
     Ok(Variable {
-        name: Text::from_bytes(alloc, b"x")?,
-        range: Some((name(alloc, b"x")?, name(alloc, b"x")?)),
+        name: x(alloc)?,
+        range: Some(range),
         init: None,
     })
 }
 
-/// `dtmc module x x:[x..x]; [x] x -> x:(x'=x); endmodule`
-fn model(alloc: Global) -> Result<ModelText, AllocError> {
-    let mut vars = Items::new(alloc);
-    vars.push(variable(alloc)?)?;
-    let mut commands = Items::new(alloc);
-    commands.push(command(alloc)?)?;
-    let mut modules = Items::new(alloc);
-    modules.push(Module::Written {
-        name: Text::from_bytes(alloc, b"x")?,
+/// `module x x:[x..x]; [x] x -> x:(x'=x); endmodule`
+fn module(alloc: Global) -> Result<Module, AllocError> {
+    let vars = one(alloc, variable(alloc)?)?;
+    let commands = one(alloc, command(alloc)?)?;
+    Ok(Module::Written {
+        name: x(alloc)?,
         vars,
         commands,
-    })?;
+    })
+}
+
+/// A model of this module.
+fn model(alloc: Global, module: Module) -> Result<ModelText, AllocError> {
     Ok(ModelText {
         consts: Items::new(alloc),
         globals: Items::new(alloc),
         formulas: Items::new(alloc),
-        modules,
+        modules: one(alloc, module)?,
         labels: Items::new(alloc),
     })
 }
 
 #[test]
 fn a_model_is_copied(rt: HostRuntime) -> Result<(), Fail> {
-    let alloc = rt.alloc();
-    let tree = model(alloc)?;
-    let again = tree.copy(alloc)?;
-    let first = format!(in alloc; "{tree:?}")?;
-    let second = format!(in alloc; "{again:?}")?;
-    assert_eq!(rt; first.as_bytes(), second.as_bytes());
+    let tree = model(rt.alloc(), module(rt.alloc())?)?;
+    let again = tree.copy(rt.alloc())?;
+    assert_eq!(rt; again.modules.as_slice().len(), 1);
     Ok(())
 }
 
+/// Whether a kind that may have been found is this one.
+fn is_found(found: Option<Kind>, kind: Kind) -> bool {
+    found == Some(kind)
+}
+
 #[test]
-fn words_and_symbols_are_found_by_their_spelling(rt: HostRuntime) -> Result<(), Fail> {
-    let words: [(&[u8], Option<Kind>); 6] = [
-        (b"dtmc", Some(Kind::Dtmc)),
-        (b"endobservables", Some(Kind::EndObservables)),
-        (b"U", Some(Kind::U)),
-        (b"u", None),
-        (b"dtmcs", None),
-        (b"floor", None),
-    ];
-    for (text, want) in words {
-        assert_eq!(rt; word(text), want);
+fn words_are_found_by_their_spelling(rt: HostRuntime) {
+    assert!(rt; is_found(word(b"dtmc"), Kind::Dtmc));
+    assert!(rt; is_found(word(b"endobservables"), Kind::EndObservables));
+    assert!(rt; is_found(word(b"U"), Kind::U));
+    for text in [b"u".as_slice(), b"dtmcs", b"floor"] {
+        assert!(rt; word(text).is_none());
     }
-    let symbols: [(&[u8], Option<Kind>); 7] = [
-        (b"<=>", Some(Kind::Equivalent)),
-        (b"<=x", Some(Kind::LessEqual)),
-        (b"<-", Some(Kind::Less)),
-        (b"..5", Some(Kind::Dots)),
-        (b".5", None),
-        (b"#", None),
-        (b"", None),
-    ];
-    for (text, want) in symbols {
-        assert_eq!(rt; symbol(text), want);
+}
+
+#[test]
+fn symbols_are_found_by_their_spelling(rt: HostRuntime) {
+    assert!(rt; is_found(symbol(b"<=>"), Kind::Equivalent));
+    assert!(rt; is_found(symbol(b"<=x"), Kind::LessEqual));
+    assert!(rt; is_found(symbol(b"<-"), Kind::Less));
+    assert!(rt; is_found(symbol(b"..5"), Kind::Dots));
+    for text in [b".5".as_slice(), b"#", b""] {
+        assert!(rt; symbol(text).is_none());
     }
     assert_eq!(rt; spelling(&Kind::Arrow), Some(b"->".as_slice()));
-    Ok(())
 }
 
 #[test]

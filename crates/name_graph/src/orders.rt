@@ -1,9 +1,3 @@
-ghost use Rattle.std.specs.Prelude.{◌<◌, ◌^◌, length, IfOk};
-ghost use Rattle.name_graph.specs.Graph.{IsGraph, IsFirstCycle, IsOrder};
-
-use sqlite_items::Items;
-use std::alloc::{AllocError, Global};
-
 /// An order of the places of a graph, or why there is none.
 #[derive(Debug, Drop)]
 pub enum Order {
