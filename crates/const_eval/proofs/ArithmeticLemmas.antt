@@ -143,6 +143,7 @@ result_faults given values each c = by_given (given c.name)
     by_value : (value : Option Expr) → FaultsInArithmetic (option_map_or (value_in values) value some_value)
     by_value None = tt
     by_value (Some x) = value_faults values each x
+
     by_given : (found : Option Constant) → FaultsInArithmetic (option_map_or (λ g. Ok g.value) found (option_map_or (value_in values) c.value some_value))
     by_given None = by_value c.value
     by_given (Some g) = tt

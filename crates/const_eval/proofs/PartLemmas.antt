@@ -177,9 +177,10 @@ part_step consts given order is distinct old new k c key result less at part pla
     let knows = next_known consts old order k i is (slice_get-get_or order k 0 less) lt places in
     let right : result ≡ result_of given (by_table old) (const_at consts i) = found ∙ ap (result_of given (by_table old)) (sym own) in
     let puts : (name : Name) → new name ≡ cond (bytes_eq (const_at consts i).name name) (Some result) (old name)
-    = λ name. put name ∙ ap (λ n. cond (bytes_eq n name) (Some result) (old name)) (named ∙ ap (λ d. d.name) (sym own)) in
-    (part_more consts given distinct old new part i lt result right knows puts,
-    subst (HasPlaces consts new) (sym (take_more order k 0 less)) (places_more consts given distinct old new part i lt result right knows puts (take k order) places))
+    = λ name. put name ∙ ap (λ n. cond (bytes_eq n name) (Some result) (old name)) (named ∙ ap (λ d. d.name) (sym own)) in (
+      part_more consts given distinct old new part i lt result right knows puts,
+      subst (HasPlaces consts new) (sym (take_more order k 0 less)) (places_more consts given distinct old new part i lt result right knows puts (take k order) places),
+    )
 
 -- a table with all constants says what each name stands for
 pub whole_part : (consts : List ConstText) (given : Name → Option Constant) (table : Name → Option Valued) (order : List ℕ) → IsOrder (uses_of consts) order

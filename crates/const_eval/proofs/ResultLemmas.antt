@@ -98,6 +98,7 @@ Contains-filter_map h (first ∷ xs) x y c e = elim (Contains-append_cases (firs
       subst (λ o. Contains (cons_option o (filter_map h xs)) y) (sym (ap h same ∙ e)) (Contains-append_left (y ∷ []) (filter_map h xs) y (Contains-push [] y))
   | inr there ↦ below (h first) y (filter_map h xs) (Contains-filter_map h xs x y there e)
 ]
+
 pub All-filter_map : {X Y : Type 0} (P : Y → Type 0) (h : X → Option Y) → ((x : X) (y : Y) → h x ≡ Some y → P y) → (xs : List X) → All P (filter_map h xs)
 All-filter_map P h each [] = All-nil P
 All-filter_map P h each (x ∷ xs) = put P (h x) (filter_map h xs) (each x) (All-filter_map P h each xs)

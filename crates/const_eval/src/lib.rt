@@ -17,7 +17,6 @@ mod undefined;
 mod unknown;
 mod wrong_types;
 
-
 pub use consts::{Constant, Consts};
 pub use evaluating::value;
 pub use fault::ConstFault;

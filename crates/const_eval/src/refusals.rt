@@ -36,11 +36,7 @@ pub fn constants(alloc: Global, flat: &FlatText, given: &[Given]) -> Result<Cons
 }
 
 /// Looks for each cause of a refusal in order, and evaluates the constants.
-fn evaluate_all(
-    alloc: Global,
-    consts: &[ConstText],
-    given: &[Given],
-) -> Result<Consts, ConstFault>
+fn evaluate_all(alloc: Global, consts: &[ConstText], given: &[Given]) -> Result<Consts, ConstFault>
     requires distinct { AreDistinct (const_names consts.now) }
     ensures values { IfOk result (λ known. AreConsts consts.now (given_to given.now) known) }
     ensures accepted { OnOk result ((told : ConstFault) → ¬ IsRefused consts.now given.now told) }

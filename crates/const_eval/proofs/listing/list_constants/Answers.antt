@@ -12,9 +12,9 @@ loop-constant-preserved c =
     let values = by_table (get bytes_eq c.args.values.now) in
     record {
       listed = entries_more (known_of values) c.args.consts.now c.loop-constant.constant-index c.constant-item.result c.loop-constant.known c.in_ok-name.name c.in_ok-one.one _
-      c.requires.distinct c.loop-constant-test.true c.constant-item.is c.loop-constant.invariant.listed (search rules) (search rules) (search rules);
+          c.requires.distinct c.loop-constant-test.true c.constant-item.is c.loop-constant.invariant.listed (search rules) (search rules) (search rules);
       none = faults_more values c.args.consts.now c.loop-constant.constant-index c.constant-item.result c.loop-constant-test.true c.constant-item.is c.loop-constant.invariant.none
-      ∙ c.in_ok-one.ensures.value;
+          ∙ c.in_ok-one.ensures.value;
     }
 
 pub returns-in_err-one-clause-told : goal.returns-in_err-one-clause-told
