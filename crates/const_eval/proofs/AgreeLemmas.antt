@@ -1,15 +1,12 @@
 -- An expression has one value under two tables that agree on the names that stand in it.
-use Rattle.std.proofs.Common.{◌≡◌, ℕ, List, [], ◌∷◌, ◌++◌, map, refl, sym, ap, ◌∙◌, subst, Contains, if◌then◌else◌, not, lit<, arith}
-use Rattle.std.specs.Prelude.{Ok}
+use Rattle.std.proofs.Common.{◌≡◌, List, [], ◌∷◌, ◌++◌, map, refl, sym, ◌∙◌, subst, Contains}
 use Rattle.std.proofs.lemmas.List.Elements.{Contains-append_left, Contains-append_right, Contains-push}
-use Rattle.smc_num.specs.Fraction.{fraction_of}
 use Rattle.prism_syntax.specs.declared.expressions.Expr.{Expr, map-Expr}
 use Rattle.prism_syntax.specs.declared.expressions.Expr.TheOpen.{Expr-F}
 use Rattle.prism_syntax.specs.declared.expressions.Expr.TheOpen as top
 use Rattle.prism_syntax.specs.declared.expressions.Expr.TheViews.{roll-Expr}
-use Rattle.prism_syntax.specs.declared.expressions.Expr.TheFolds.{fold-Expr, fold-roll-Expr, ind-Expr}
-use Rattle.chain_model.specs.Results.{◌>>=◌}
-use Rattle.chain_model.specs.Values.{Valued, truth, level_value, call_value}
+use Rattle.prism_syntax.specs.declared.expressions.Expr.TheFolds.{fold-roll-Expr, ind-Expr}
+use Rattle.chain_model.specs.Values.{Valued, level_value, call_value}
 use Rattle.prism_names.specs.First.{Name}
 use Rattle.prism_names.specs.Names.{names_step, names_of, concatenated}
 use Rattle.const_eval.specs.Tables.{op_of, func_of}

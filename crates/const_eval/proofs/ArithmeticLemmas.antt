@@ -1,5 +1,5 @@
 -- A fault of evaluating is one of arithmetic, where names stand for values or for faults of arithmetic.
-use Rattle.std.proofs.Common.{◌≡◌, ℕ, List, [], ◌∷◌, map, refl, sym, ap, ◌∙◌, subst, Bool, true, false, if◌then◌else◌}
+use Rattle.std.proofs.Common.{List, [], ◌∷◌, map, refl, sym, subst, Bool, true, false, if◌then◌else◌}
 use Rattle.std.specs.Prelude.{Option, Some, None, Result, Ok, Err, ℤ, pos}
 use Rattle.std.specs.Option.{option_map_or}
 use Rattle.smc_num.specs.Fraction.{Fraction, fraction_of}
@@ -8,9 +8,8 @@ use Rattle.prism_syntax.specs.declared.expressions.Expr.{Expr, map-Expr}
 use Rattle.prism_syntax.specs.declared.expressions.Expr.TheOpen.{Expr-F}
 use Rattle.prism_syntax.specs.declared.expressions.Expr.TheOpen as top
 use Rattle.prism_syntax.specs.declared.expressions.Expr.TheViews.{roll-Expr}
-use Rattle.prism_syntax.specs.declared.expressions.Expr.TheFolds.{fold-Expr, fold-roll-Expr, ind-Expr}
+use Rattle.prism_syntax.specs.declared.expressions.Expr.TheFolds.{fold-roll-Expr, ind-Expr}
 use Rattle.prism_syntax.specs.declared.models.ConstText.{ConstText}
-use Rattle.chain_model.specs.declared.outcome.TraceFault.{TraceFault}
 use Rattle.chain_model.specs.declared.values.Value.{Value}
 use Rattle.chain_model.specs.declared.values.Value.TheVariants as v
 use Rattle.chain_model.specs.declared.expressions.Func.{Func}
@@ -18,7 +17,7 @@ use Rattle.chain_model.specs.declared.expressions.Func.TheVariants as f
 use Rattle.chain_model.specs.declared.expressions.Op.{Op}
 use Rattle.chain_model.specs.declared.expressions.Op.TheVariants as o
 use Rattle.chain_model.specs.Results.{◌>>=◌}
-use Rattle.chain_model.specs.Values.{Valued, truth, as_value, whole_value, remainder, apply_to_number, apply_to_numbers, left_result, both_result, join, links_value, level_value, extreme_value, lesser, greater, function_value, call_value}
+use Rattle.chain_model.specs.Values.{Valued, truth, as_value, remainder, apply_to_number, apply_to_numbers, left_result, both_result, join, links_value, level_value, extreme_value, lesser, greater, function_value, call_value}
 use Rattle.prism_names.specs.First.{Name}
 use Rattle.const_eval.specs.declared.consts.Constant.{Constant}
 use Rattle.const_eval.specs.Tables.{op_of, func_of}

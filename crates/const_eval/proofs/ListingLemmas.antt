@@ -1,12 +1,11 @@
 -- Constants gathered in maps and lists.
-use Rattle.std.proofs.Common.{◌≡◌, ℕ, zero, suc, ◌+◌, ◌<◌, ◌≤◌, List, [], ◌∷◌, ◌++◌, Option, Bool, true, false, length, get_or, take, map, find, reverse, cond, bytes_eq, option_map, min, rules, arith, refl, sym, ap, ◌∙◌, subst}
-use Rattle.std.specs.Prelude.{None, Some, Ok, Err}
+use Rattle.std.proofs.Common.{◌≡◌, ℕ, suc, ◌+◌, ◌<◌, List, [], ◌∷◌, ◌++◌, Option, Bool, true, false, length, get_or, take, map, find, reverse, cond, bytes_eq, option_map, arith, refl, sym, ap, ◌∙◌, subst}
+use Rattle.std.specs.Prelude.{None, Some}
 use mathlib.Core.Logic.{inl, inr}
 use Rattle.std.specs.Bool.{Decides}
 use Rattle.std.specs.Map.{lookup}
 use Rattle.std.proofs.lemmas.Bool.{cases_Bool}
-use Rattle.std.proofs.lemmas.Grind.{common_steps}
-use Rattle.std.proofs.lemmas.List.{take_more, map_more, get_or-map, get_or-take, length-take, length-map, reverse-append}
+use Rattle.std.proofs.lemmas.List.{map_more, get_or-map, get_or-take, length-take, length-map, reverse-append}
 use Rattle.std.proofs.lemmas.Slice.Eq.{bytes_eq-Decides}
 use Rattle.indexmap.specs.IndexMap.{IndexMap, get, insert_entry}
 use Rattle.indexmap.proofs.CallerLemmas.{insert_entry-new}

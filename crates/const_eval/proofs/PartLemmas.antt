@@ -1,19 +1,19 @@
 -- Tables of the results of some constants: each result is the constant's under this very table, which has all that its definition reads.
-use Rattle.std.proofs.Common.{◌≡◌, ℕ, zero, suc, ◌+◌, ◌<◌, ◌≤◌, List, [], ◌∷◌, ◌++◌, Option, Bool, true, false, length, get_or, take, map, find, cond, bytes_eq, Contains, All, unwrap_or, option_map, nat_lt, rules, arith, refl, sym, ap, ◌∙◌, subst}
-use Rattle.std.specs.Prelude.{None, Some, Ok, Err, ◌⊎◌, position, slice_get}
+use Rattle.std.proofs.Common.{◌≡◌, ℕ, ◌+◌, ◌<◌, List, [], ◌∷◌, ◌++◌, Option, Bool, false, length, get_or, take, cond, bytes_eq, Contains, unwrap_or, option_map, nat_lt, arith, refl, sym, ap, ◌∙◌, subst}
+use Rattle.std.specs.Prelude.{None, Some, slice_get}
 use mathlib.Core.Logic.{inl, inr}
 use Rattle.std.specs.List.{position_or_len, filter_map}
-use Rattle.std.proofs.lemmas.Bool.{cases_Bool, cases_eq, cases_order, lt-ltb}
+use Rattle.std.proofs.lemmas.Bool.{cases_Bool, lt-ltb}
 use Rattle.std.proofs.lemmas.Option.{none-some, same_Some, slice_get-get_or}
 use Rattle.std.proofs.lemmas.List.{get_or-map, get_or_default, length-map, take_more}
-use Rattle.std.proofs.lemmas.List.Elements.{Contains-push_cases, All-contains, Contains-get_or}
+use Rattle.std.proofs.lemmas.List.Elements.{Contains-push_cases}
 use Rattle.std.proofs.lemmas.List.Quantifiers.{position-Some}
 use Rattle.std.proofs.lemmas.List.Sums.{position_or_len_is}
 use Rattle.prism_syntax.specs.declared.models.ConstText.{ConstText}
 use Rattle.prism_syntax.specs.declared.models.SortWord.TheVariants as word
 use Rattle.chain_model.specs.Values.{Valued}
 use Rattle.prism_names.specs.First.{Name, AreDistinct}
-use Rattle.name_graph.specs.Graph.{Uses, IsOrder}
+use Rattle.name_graph.specs.Graph.{IsOrder}
 use Rattle.const_eval.specs.declared.consts.Constant.{Constant}
 use Rattle.const_eval.specs.Evaluating.{by_table, some_value}
 use Rattle.const_eval.specs.Constants.{const_names, definition_names, result_of, uses_of}

@@ -1,5 +1,5 @@
 -- Constants are refused or accepted, and refused with one fault at most.
-use Rattle.std.proofs.Common.{◌≡◌, ℕ, Bool, suc, ◌+◌, ◌<◌, List, [], ◌∷◌, Option, map, find, length, take, get_or, unwrap_or, option_map, bytes_eq, MatchOption, rules, arith, refl, sym, ap, ◌∙◌, subst}
+use Rattle.std.proofs.Common.{◌≡◌, ℕ, Bool, suc, ◌+◌, ◌<◌, List, [], ◌∷◌, Option, map, length, take, get_or, unwrap_or, option_map, MatchOption, arith, refl, sym, ap, ◌∙◌, subst}
 use Rattle.std.specs.Prelude.{None, Some, Ok, Err, ◌⊎◌, Result, IfErr, IfOk, OnOk}
 use Rattle.std.specs.Result.{IsErrAnd}
 use Rattle.std.proofs.lemmas.Result.{err_from_is_err_and}
@@ -24,7 +24,7 @@ use Rattle.const_eval.specs.Evaluating.{some_value}
 use Rattle.const_eval.specs.Constants.{const_names, given_names, given_to, sort_declared, Results, result_in, result_of, AreResults, uses_of, results_of, AreConsts}
 use Rattle.const_eval.specs.Refusals.{first_undefined, first_missing, first_unread, unknown_of, given_twice_of, first_wrong_type, fault_of, first_fault, Tells, TellsFirstCycle, TellsCycle, TellsFault, TellsFirstFault, TellsNum, IsRefused, IsOutOfMemory, IsTold, HasOneRefusal}
 use Rattle.const_eval.specs.Listing.{listed, IsValuation, value_or_some, listed_consts, listed_results}
-use Rattle.const_eval.proofs.ResultLemmas.{const_of, some_placed, result_in-listed, one_result}
+use Rattle.const_eval.proofs.ResultLemmas.{some_placed, result_in-listed, one_result}
 use Rattle.const_eval.proofs.FirstLemmas.{told_more, told_here as first_told}
 use Rattle.const_eval.proofs.PartLemmas.{nothing, const_at, own_place}
 

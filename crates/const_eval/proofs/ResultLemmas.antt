@@ -1,27 +1,24 @@
 -- Constants have one list of results at most.
-use Rattle.std.proofs.Common.{◌≡◌, ℕ, zero, suc, ◌+◌, ◌<◌, ◌≤◌, List, [], ◌∷◌, Bool, true, false, Option, map, find, length, get_or, cond, bytes_eq, Contains, All, unwrap_or, option_map, nat_lt, not, rules, arith, refl, sym, ap, ◌∙◌, subst}
-use Rattle.std.specs.Prelude.{None, Some, Ok, Err, ◌⊎◌, position, slice_get}
+use Rattle.std.proofs.Common.{◌≡◌, ℕ, zero, suc, ◌+◌, ◌<◌, List, [], ◌∷◌, true, false, Option, map, find, length, get_or, cond, bytes_eq, Contains, All, unwrap_or, option_map, nat_lt, not, arith, refl, sym, ap, ◌∙◌, subst}
+use Rattle.std.specs.Prelude.{None, Some, Ok, position, slice_get}
 use mathlib.Core.Logic.{inl, inr}
 use Rattle.std.specs.Option.{option_map_or}
 use Rattle.std.specs.List.{filter_map, cons_option, position_or_len}
-use Rattle.std.specs.Bool.{Decides}
 use Rattle.std.proofs.lemmas.Bool.{cases_lt, lt-ltb}
-use Rattle.std.proofs.lemmas.Option.{none-some, same_Some, cond_some, slice_get_past, slice_get-get_or}
-use Rattle.std.proofs.lemmas.Grind.{common_steps}
+use Rattle.std.proofs.lemmas.Option.{none-some, cond_some, slice_get_past, slice_get-get_or}
 use Rattle.std.proofs.lemmas.List.{get_or-map, length-map}
 use Rattle.std.proofs.lemmas.List.Folds.{find_at}
 use Rattle.std.proofs.lemmas.List.Elements.{All-nil, All-cons, All-map, Contains-append_cases, Contains-append_left, Contains-append_right, Contains-push}
 use Rattle.std.proofs.lemmas.List.Quantifiers.{position-Some}
-use Rattle.std.proofs.lemmas.Slice.Eq.{bytes_eq-Decides}
 use Rattle.prism_syntax.specs.declared.expressions.Expr.{Expr}
 use Rattle.prism_syntax.specs.declared.models.ConstText.{ConstText}
 use Rattle.prism_syntax.specs.declared.models.SortWord.TheVariants as word
 use Rattle.chain_model.specs.Values.{Valued}
 use Rattle.prism_names.specs.First.{Name}
 use Rattle.prism_names.specs.Names.{names_of}
-use Rattle.name_graph.specs.Graph.{Graph, Uses, IsGraph, HasNoCycle}
+use Rattle.name_graph.specs.Graph.{Uses, IsGraph, HasNoCycle}
 use Rattle.const_eval.specs.declared.consts.Constant.{Constant}
-use Rattle.const_eval.specs.Evaluating.{value_in, by_table, some_value}
+use Rattle.const_eval.specs.Evaluating.{value_in, some_value}
 use Rattle.const_eval.specs.Constants.{const_names, definition_names, Results, result_in, result_of, AreResults, uses_of, HaveOneResult}
 use Rattle.const_eval.proofs.AgreeLemmas.{AgreeOn, agrees}
 use Rattle.const_eval.proofs.GraphLemmas.{by_uses}

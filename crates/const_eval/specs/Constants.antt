@@ -1,12 +1,10 @@
 -- The constants of a model: what each stands for is the value that it is given or else the value of its definition, in which names stand for constants.
-use Rattle.std.specs.Prelude.{◌≡◌, ℕ, Bool, true, false, List, [], Option, Some, None, option_map, Result, Ok, map, find, position, bytes_eq, reverse}
+use Rattle.std.specs.Prelude.{◌≡◌, List, [], Option, option_map, Ok, map, find, position, bytes_eq, reverse}
 use Rattle.std.specs.Option.{option_or, option_map_or}
 use Rattle.std.specs.List.{filter_map}
 use Rattle.prism_syntax.specs.declared.models.ConstText.{ConstText}
 use Rattle.chain_model.specs.declared.constants.Given.{Given}
 use Rattle.chain_model.specs.declared.values.Sort.{Sort}
-use Rattle.chain_model.specs.declared.values.Sort.TheVariants as sort
-use Rattle.chain_model.specs.declared.values.Value.{Value}
 use Rattle.chain_model.specs.Sorts.{◌>>=◌}
 use Rattle.chain_model.specs.Values.{Valued}
 use Rattle.prism_names.specs.First.{Name}

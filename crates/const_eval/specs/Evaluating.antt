@@ -1,5 +1,5 @@
 -- The value of an expression whose names stand for something: exact, from left to right, and the first fault is that of the whole.
-use Rattle.std.specs.Prelude.{pos, neg_ℤ, Option, Result, Ok, if◌then◌else◌, map, not, false, unwrap_or}
+use Rattle.std.specs.Prelude.{pos, neg_ℤ, Option, Ok, if◌then◌else◌, map, not, false, unwrap_or}
 use Rattle.smc_num.specs.Fraction.{fraction_of}
 use Rattle.prism_syntax.specs.declared.expressions.Expr.{Expr}
 use Rattle.prism_syntax.specs.declared.expressions.Expr.TheOpen.{Expr-F}

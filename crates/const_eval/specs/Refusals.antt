@@ -1,5 +1,5 @@
 -- The refusals of constants, in order, each with the first name in its order.
-use Rattle.std.specs.Prelude.{◌≡◌, ◌⊎◌, ◌&&◌, ℕ, Bool, true, false, not, List, [], ◌++◌, Option, Some, None, option_map, is_some, Result, Ok, Err, map, find, filter, MatchOption}
+use Rattle.std.specs.Prelude.{◌≡◌, ◌⊎◌, ◌&&◌, ℕ, Bool, true, false, not, List, [], ◌++◌, Option, Some, None, option_map, is_some, Ok, Err, find, filter, MatchOption}
 use Rattle.std.specs.Option.{option_or, option_map_or}
 use Rattle.std.specs.List.{slice_index_or}
 use Rattle.smc_num.specs.declared.fault.NumFault.{NumFault}

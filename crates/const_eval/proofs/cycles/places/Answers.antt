@@ -1,4 +1,4 @@
-use Rattle.std.proofs.Common.{◌<◌, ◌^◌, arith, subst, bytes_eq}
+use Rattle.std.proofs.Common.{◌<◌, arith, subst, bytes_eq}
 use Rattle.std.specs.Prelude.{position, IfSome}
 use Rattle.indexmap.specs.IndexMap.{keys, index_map_len}
 use Rattle.prism_names.proofs.NameLemmas.{one_more}

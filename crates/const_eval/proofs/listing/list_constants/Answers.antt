@@ -1,7 +1,7 @@
-use Rattle.std.proofs.Common.{◌≡◌, ◌∙◌, rules, bytes_eq}
-use Rattle.indexmap.specs.IndexMap.{get, insert_entry}
+use Rattle.std.proofs.Common.{◌∙◌, rules, bytes_eq}
+use Rattle.indexmap.specs.IndexMap.{get}
 use Rattle.const_eval.specs.Evaluating.{by_table}
-use Rattle.const_eval.specs.Refusals.{TellsFirstFault, fault_of}
+use Rattle.const_eval.specs.Refusals.{TellsFirstFault}
 use Rattle.const_eval.specs.Listing.{known_of, listed_results}
 use Rattle.const_eval.proofs.ListingLemmas.{entries_more}
 use Rattle.const_eval.proofs.RefusalLemmas.{Ends, handed_on, faults_more, fault_told}

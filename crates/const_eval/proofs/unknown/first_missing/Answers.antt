@@ -1,4 +1,4 @@
-use Rattle.std.proofs.Common.{◌+◌, sym, ◌∙◌, not, is_some, bytes_eq, map}
+use Rattle.std.proofs.Common.{◌+◌, sym, ◌∙◌, not, is_some, bytes_eq}
 use Rattle.indexmap.specs.IndexMap.{get}
 use Rattle.prism_names.proofs.NameLemmas.{one_more, none_more, found_first, mapped_parts}
 use Rattle.const_eval.proofs.unknown.first_missing.Goals as goal

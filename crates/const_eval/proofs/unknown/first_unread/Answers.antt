@@ -1,4 +1,4 @@
-use Rattle.std.proofs.Common.{◌≡◌, ℕ, List, map, ap, sym, ◌∙◌, is_some, bytes_eq, Bool}
+use Rattle.std.proofs.Common.{ℕ, List, map, ap, sym, ◌∙◌, is_some, bytes_eq, Bool}
 use Rattle.indexmap.specs.IndexMap.{get}
 use Rattle.const_eval.specs.Constants.{definition_names}
 use Rattle.const_eval.specs.Refusals.{first_missing}
