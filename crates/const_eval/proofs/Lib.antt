@@ -6,5 +6,6 @@ pub mod FirstLemmas
 pub mod ListingLemmas
 pub mod TableLemmas
 pub mod ArithmeticLemmas
+pub mod KeepingLemmas
 pub mod PartLemmas
 pub mod RefusalLemmas
