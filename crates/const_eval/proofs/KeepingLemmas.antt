@@ -2,7 +2,7 @@
 use Rattle.std.proofs.Common.{◌≡◌, ℕ, zero, suc, ◌*◌, ◌/◌, ◌^◌, ◌&&◌, List, [], ◌∷◌, map, length, refl, sym, ap, ◌∙◌, subst, subst₂, arith, Bool, true, false, if◌then◌else◌, eq-eqb, eqb-true, pow-suc}
 use Rattle.std.specs.Prelude.{Option, Some, None, option_map, Result, Ok, Err, ℤ, pos, negsuc, neg_ℤ, int_div, unsigned_abs, nat_lt, not}
 use Rattle.std.specs.Option.{option_map_or}
-use Rattle.std.specs.Int.{◌∣◌, int_pow}
+use Rattle.std.specs.Int.{◌∣◌}
 use Rattle.std.proofs.lemmas.Bool.{false≢true}
 use native.Mathlib.Nat.{eq-one_of_dvd-one, pow-zero}
 use Rattle.smc_num.specs.Gcd.{gcd_of}
@@ -28,7 +28,7 @@ use Rattle.chain_model.specs.declared.expressions.Op.TheVariants as o
 use Rattle.chain_model.specs.Results.{◌>>=◌ as ◌>>=ᵥ◌}
 use Rattle.chain_model.specs.Sorts.{◌>>=◌, is_of_sort, number_sort, truth_sort, common_sort, result_sort, link_sort, links_sort, is_level, level_sort, extreme_sort, rounded_sort, power_sort, remainder_sort, both_sorts, call_sort, negation_sort, opposite_sort, conditional_sort}
 use Rattle.chain_model.specs.Typing.{if_sort}
-use Rattle.chain_model.specs.Values.{Valued, truth, as_value, whole_value, remainder, apply_to_number, apply_to_numbers, is_below, is_above, left_result, both_result, join, links_value, level_value, extreme_value, lesser, greater, function_value, call_value}
+use Rattle.chain_model.specs.Values.{Valued, truth, as_value, whole_value, remainder, apply_to_number, apply_to_numbers, is_below, is_above, both_result, join, links_value, level_value, extreme_value, lesser, greater, function_value, call_value}
 use Rattle.prism_names.specs.First.{Name}
 use Rattle.const_eval.specs.Tables.{op_of, func_of}
 use Rattle.const_eval.specs.Sorting.{sort_step, sort_in}
@@ -94,7 +94,7 @@ widened : (a : Value) → OfSort sort.Int a → OfSort sort.Double a
 widened (v.Num x) p = refl
 widened (v.Bool b) p = absurd (false≢true p)
 
-widened_result : (r : Valued) → IsOfSort sort.Int r → IsOfSort sort.Double r
+pub widened_result : (r : Valued) → IsOfSort sort.Int r → IsOfSort sort.Double r
 widened_result (Ok a) p = widened a p
 widened_result (Err fault) p = tt
 

@@ -9,3 +9,4 @@ pub mod ArithmeticLemmas
 pub mod KeepingLemmas
 pub mod PartLemmas
 pub mod RefusalLemmas
+pub mod SortedLemmas

@@ -1,11 +1,11 @@
 -- The constants of a model: what each stands for is the value that it is given or else the value of its definition, in which names stand for constants.
-use Rattle.std.specs.Prelude.{◌≡◌, List, [], Option, option_map, Ok, map, find, position, bytes_eq, reverse}
+use Rattle.std.specs.Prelude.{◌≡◌, true, List, [], Option, option_map, Ok, map, find, position, bytes_eq, reverse}
 use Rattle.std.specs.Option.{option_or, option_map_or}
-use Rattle.std.specs.List.{filter_map}
+use Rattle.std.specs.List.{All, filter_map}
 use Rattle.prism_syntax.specs.declared.models.ConstText.{ConstText}
 use Rattle.chain_model.specs.declared.constants.Given.{Given}
 use Rattle.chain_model.specs.declared.values.Sort.{Sort}
-use Rattle.chain_model.specs.Sorts.{◌>>=◌}
+use Rattle.chain_model.specs.Sorts.{◌>>=◌, is_of_sort}
 use Rattle.chain_model.specs.Values.{Valued}
 use Rattle.prism_names.specs.First.{Name}
 use Rattle.prism_names.specs.Names.{names_of}
@@ -77,3 +77,11 @@ pub record AreConsts (consts : List ConstText) (given : Name → Option Constant
   pub names : map (λ k. k.0) known ≡ const_names consts
   pub sorts : map (λ k. k.1.sort) known ≡ map (λ c. sort_of_word c.sort) consts
   pub values : AreResults consts given (results_of known)
+
+-- what is given is of the sort that it is given with
+abbrev pub AreGivenSorted : List Given → Type 0
+AreGivenSorted given = All (λ g. is_of_sort g.sort g.value ≡ true) given
+
+-- the value of each constant is of its sort
+abbrev pub AreSorted : List (Name × Constant) → Type 0
+AreSorted known = All (λ k. is_of_sort k.1.sort k.1.value ≡ true) known

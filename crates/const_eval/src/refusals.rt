@@ -5,7 +5,7 @@ ghost use Rattle.indexmap.specs.IndexMap.{get};
 ghost use Rattle.prism_names.specs.First.{AreDistinct};
 ghost use Rattle.name_graph.specs.Graph.{IsOrder};
 ghost use Rattle.const_eval.specs.declared.fault.ConstFault.{ConstFault};
-ghost use Rattle.const_eval.specs.Constants.{const_names, given_to, uses_of, AreConsts};
+ghost use Rattle.const_eval.specs.Constants.{const_names, given_to, uses_of, AreConsts, AreGivenSorted, AreSorted};
 ghost use Rattle.const_eval.specs.Refusals.{IsOutOfMemory, IsRefused, ArePassed, first_wrong_type};
 ghost use Rattle.const_eval.specs.Listing.{declared_sorts};
 
@@ -29,6 +29,7 @@ use std::alloc::Global;
 pub fn constants(alloc: Global, flat: &FlatText, given: &[Given]) -> Result<Consts, ConstFault>
     requires distinct { AreDistinct (const_names flat.now.consts) }
     ensures values { IfOk result (λ known. AreConsts flat.now.consts (given_to given.now) known) }
+    ensures sorted { IfOk result (λ known. AreGivenSorted given.now → AreSorted known) }
     ensures accepted { OnOk result ((told : ConstFault) → ¬ IsRefused flat.now.consts given.now told) }
     ensures refused { IfErr result (λ told. IsOutOfMemory told ⊎ IsRefused flat.now.consts given.now told) }
 {
@@ -39,6 +40,7 @@ pub fn constants(alloc: Global, flat: &FlatText, given: &[Given]) -> Result<Cons
 fn evaluate_all(alloc: Global, consts: &[ConstText], given: &[Given]) -> Result<Consts, ConstFault>
     requires distinct { AreDistinct (const_names consts.now) }
     ensures values { IfOk result (λ known. AreConsts consts.now (given_to given.now) known) }
+    ensures sorted { IfOk result (λ known. AreGivenSorted given.now → AreSorted known) }
     ensures accepted { OnOk result ((told : ConstFault) → ¬ IsRefused consts.now given.now told) }
     ensures refused { IfErr result (λ told. IsOutOfMemory told ⊎ IsRefused consts.now given.now told) }
 {
@@ -66,6 +68,7 @@ fn refuse_all(
     requires sorts { sorts.now.entries ≡ declared_sorts consts.now }
     requires table { (name : List ℕ) → get bytes_eq table.now name ≡ given_to given.now name }
     ensures values { IfOk result (λ known. AreConsts consts.now (given_to given.now) known) }
+    ensures sorted { IfOk result (λ known. AreGivenSorted given.now → AreSorted known) }
     ensures accepted { OnOk result ((told : ConstFault) → ¬ IsRefused consts.now given.now told) }
     ensures refused { IfErr result (λ told. IsOutOfMemory told ⊎ IsRefused consts.now given.now told) }
 {
@@ -146,6 +149,7 @@ fn give_values(
     requires sorted { first_wrong_type (get bytes_eq sorts.now) (get bytes_eq table.now) consts.now ≡ None }
     requires order { IsOrder (uses_of consts.now) order.now }
     ensures values { IfOk result (λ known. AreConsts consts.now (given_to given.now) known) }
+    ensures sorted { IfOk result (λ known. AreGivenSorted given.now → AreSorted known) }
     ensures accepted { OnOk result ((told : ConstFault) → ¬ IsRefused consts.now given.now told) }
     ensures refused { IfErr result (λ told. IsOutOfMemory told ⊎ IsRefused consts.now given.now told) }
 {

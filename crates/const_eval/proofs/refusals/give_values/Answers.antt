@@ -6,6 +6,7 @@ use Rattle.const_eval.specs.Evaluating.{by_table}
 use Rattle.const_eval.specs.Constants.{uses_of}
 use Rattle.const_eval.proofs.TableLemmas.{sorts_are, known_are}
 use Rattle.const_eval.proofs.RefusalLemmas.{listed_values, listed_accepted, listed_refused}
+use Rattle.const_eval.proofs.SortedLemmas.{listed_sorted}
 use Rattle.const_eval.proofs.refusals.give_values.Goals as goal
 
 pub returns-in-Ok-clause-values : goal.returns-in-Ok-clause-values
@@ -27,3 +28,11 @@ returns-in-Ok-clause-refused c =
     listed_refused c.args.consts.now c.args.given.now (get bytes_eq c.args.table.now) (get bytes_eq c.args.sorts.now) (λ name. is_some (get bytes_eq c.args.sorts.now name))
     (λ j name. c.requires.table name j) (sorts_are c.args.consts.now c.args.sorts.now c.requires.sorts) (known_are c.args.consts.now c.args.sorts.now c.requires.sorts)
     c.requires.distinct (by_table (get bytes_eq c.in-Ok.values)) c.in-Ok.ensures.valuation c.list_constants.result c.requires.passed.undefined c.requires.passed.unknown c.requires.passed.twice acyclic c.requires.sorted c.list_constants.ensures.told
+
+pub returns-in-Ok-clause-sorted : goal.returns-in-Ok-clause-sorted
+returns-in-Ok-clause-sorted c =
+    let acyclic : HasNoCycle (uses_of c.args.consts.now) = orders_have_no_cycle (uses_of c.args.consts.now) c.args.order.now c.requires.order in
+    listed_sorted c.args.consts.now c.args.given.now (get bytes_eq c.args.table.now) (get bytes_eq c.args.sorts.now)
+    (λ j name. c.requires.table name j) (sorts_are c.args.consts.now c.args.sorts.now c.requires.sorts)
+    c.requires.distinct (by_table (get bytes_eq c.in-Ok.values)) c.in-Ok.ensures.valuation acyclic c.requires.sorted
+    c.list_constants.result c.list_constants.ensures.listed c.list_constants.ensures.none
