@@ -1,0 +1,12 @@
+pub mod EvaluatingLemmas
+pub mod AgreeLemmas
+pub mod GraphLemmas
+pub mod ResultLemmas
+pub mod FirstLemmas
+pub mod ListingLemmas
+pub mod TableLemmas
+pub mod ArithmeticLemmas
+pub mod KeepingLemmas
+pub mod PartLemmas
+pub mod RefusalLemmas
+pub mod SortedLemmas
