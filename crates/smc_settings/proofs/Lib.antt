@@ -1,0 +1,14 @@
+pub mod CutLemmas
+pub mod PositionLemmas
+pub mod FormLemmas
+pub mod WalkLemmas
+pub mod TableLemmas
+pub mod TableFacts
+pub mod ValueLemmas
+pub mod ConstantLemmas
+pub mod HundredthLemmas
+pub mod TestLemmas
+pub mod PairsLemmas
+pub mod RangeLemmas
+pub mod SettingLemmas
+pub mod UniqueLemmas

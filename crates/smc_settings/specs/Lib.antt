@@ -1,0 +1,5 @@
+pub mod Options
+pub mod Values
+pub mod Constants
+pub mod Settings
+pub mod Parse
