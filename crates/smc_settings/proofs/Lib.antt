@@ -1,7 +1,13 @@
 pub mod CutLemmas
 pub mod PositionLemmas
+pub mod NameLemmas
 pub mod FormLemmas
+pub mod StepLemmas
+pub mod RowLemmas
+pub mod TurnLemmas
 pub mod WalkLemmas
+pub mod MatchLemmas
+pub mod DistinctLemmas
 pub mod TableLemmas
 pub mod TableFacts
 pub mod ValueLemmas

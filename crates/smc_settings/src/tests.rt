@@ -41,19 +41,37 @@ fn constants(alloc: Global, given: &[chain_model::Given]) -> Result<String, Allo
 /// Settings in one line.
 fn line(alloc: Global, settings: &Settings) -> Result<String, AllocError> {
     match settings {
-        Settings::Check { model, property, given, seed, test, limit, workers } => {
+        Settings::Check {
+            model,
+            property,
+            given,
+            seed,
+            test,
+            limit,
+            workers,
+        } => {
             let given = constants(alloc, given.as_slice())?;
             let test = match test {
                 TestWords::Plan { n, c } => format!(in alloc; "plan {n},{c}")?,
                 TestWords::Wald { delta, alpha, beta } => {
-                    let (delta, alpha, beta) = (number(alloc, delta)?, number(alloc, alpha)?, number(alloc, beta)?);
+                    let (delta, alpha, beta) = (
+                        number(alloc, delta)?,
+                        number(alloc, alpha)?,
+                        number(alloc, beta)?,
+                    );
                     format!(in alloc; "wald {delta} {alpha} {beta}")?
                 }
             };
             let (model, property) = (model.as_str(), property.as_str());
             format!(in alloc; "check {model} {property}{given} {seed} {test} {limit} {workers}")
         }
-        Settings::Trace { model, given, seed, index, steps } => {
+        Settings::Trace {
+            model,
+            given,
+            seed,
+            index,
+            steps,
+        } => {
             let given = constants(alloc, given.as_slice())?;
             let model = model.as_str();
             format!(in alloc; "trace {model}{given} {seed} {index} {steps}")
@@ -84,33 +102,108 @@ fn refuses_options(alloc: Global, options: &str) -> Result<bool, AllocError> {
 
 /// Words, and their settings in a line.
 static SETTINGS: [(&str, &str); 29] = [
-    ("check|--model=m|--property=p", "check m p 1 wald 1/100 1/100 1/100 1000000 1"),
-    ("check|--property|p|--model|m", "check m p 1 wald 1/100 1/100 1/100 1000000 1"),
-    ("check|--property=P>=1/2 [ F<=1 x=1 ]|--model|a b", "check a b P>=1/2 [ F<=1 x=1 ] 1 wald 1/100 1/100 1/100 1000000 1"),
-    ("check|--model=m|--property=p|--seed=0", "check m p 0 wald 1/100 1/100 1/100 1000000 1"),
-    ("check|--model=m|--property=p|--seed|18446744073709551615", "check m p 18446744073709551615 wald 1/100 1/100 1/100 1000000 1"),
-    ("check|--seed=00000000000000000258|--model=m|--property=p", "check m p 258 wald 1/100 1/100 1/100 1000000 1"),
-    ("check|--model=m|--property=p|--limit=1", "check m p 1 wald 1/100 1/100 1/100 1 1"),
-    ("check|--model=m|--property=p|--limit|268435456", "check m p 1 wald 1/100 1/100 1/100 268435456 1"),
-    ("check|--model=m|--property=p|--workers=1", "check m p 1 wald 1/100 1/100 1/100 1000000 1"),
-    ("check|--model=m|--property=p|--workers|64", "check m p 1 wald 1/100 1/100 1/100 1000000 64"),
-    ("check|--model=m|--property=p|--plan|10,7", "check m p 1 plan 10,7 1000000 1"),
-    ("check|--model=m|--property=p|--plan=0,0", "check m p 1 plan 0,0 1000000 1"),
-    ("check|--model=m|--property=p|--plan=007,268435456", "check m p 1 plan 7,268435456 1000000 1"),
-    ("check|--model=m|--property=p|--plan=268435456,9", "check m p 1 plan 268435456,9 1000000 1"),
-    ("check|--model=m|--property=p|--delta=1/20", "check m p 1 wald 1/20 1/100 1/100 1000000 1"),
-    ("check|--model=m|--property=p|--alpha|0.05", "check m p 1 wald 1/100 1/20 1/100 1000000 1"),
-    ("check|--model=m|--property=p|--beta=5e-2", "check m p 1 wald 1/100 1/100 1/20 1000000 1"),
-    ("check|--model=m|--property=p|--beta=2/8|--alpha=.5|--delta=3", "check m p 1 wald 3/1 1/2 1/4 1000000 1"),
-    ("check|--model=m|--property=p|--const=K=3", "check m p int K=3/1 1 wald 1/100 1/100 1/100 1000000 1"),
-    ("check|--model=m|--property=p|--const|K=-3", "check m p int K=-3/1 1 wald 1/100 1/100 1/100 1000000 1"),
-    ("check|--model=m|--property=p|--const=_a1=3.0", "check m p double _a1=3/1 1 wald 1/100 1/100 1/100 1000000 1"),
-    ("trace|--model=m|--const=K=1e2,L=-.5,M=true,K=false", "trace m double K=100/1 double L=-1/2 bool M=true bool K=false 1 0 10"),
-    ("trace|--model=m|--const=K=4611686018427387903", "trace m int K=4611686018427387903/1 1 0 10"),
+    (
+        "check|--model=m|--property=p",
+        "check m p 1 wald 1/100 1/100 1/100 1000000 1",
+    ),
+    (
+        "check|--property|p|--model|m",
+        "check m p 1 wald 1/100 1/100 1/100 1000000 1",
+    ),
+    (
+        "check|--property=P>=1/2 [ F<=1 x=1 ]|--model|a b",
+        "check a b P>=1/2 [ F<=1 x=1 ] 1 wald 1/100 1/100 1/100 1000000 1",
+    ),
+    (
+        "check|--model=m|--property=p|--seed=0",
+        "check m p 0 wald 1/100 1/100 1/100 1000000 1",
+    ),
+    (
+        "check|--model=m|--property=p|--seed|18446744073709551615",
+        "check m p 18446744073709551615 wald 1/100 1/100 1/100 1000000 1",
+    ),
+    (
+        "check|--seed=00000000000000000258|--model=m|--property=p",
+        "check m p 258 wald 1/100 1/100 1/100 1000000 1",
+    ),
+    (
+        "check|--model=m|--property=p|--limit=1",
+        "check m p 1 wald 1/100 1/100 1/100 1 1",
+    ),
+    (
+        "check|--model=m|--property=p|--limit|268435456",
+        "check m p 1 wald 1/100 1/100 1/100 268435456 1",
+    ),
+    (
+        "check|--model=m|--property=p|--workers=1",
+        "check m p 1 wald 1/100 1/100 1/100 1000000 1",
+    ),
+    (
+        "check|--model=m|--property=p|--workers|64",
+        "check m p 1 wald 1/100 1/100 1/100 1000000 64",
+    ),
+    (
+        "check|--model=m|--property=p|--plan|10,7",
+        "check m p 1 plan 10,7 1000000 1",
+    ),
+    (
+        "check|--model=m|--property=p|--plan=0,0",
+        "check m p 1 plan 0,0 1000000 1",
+    ),
+    (
+        "check|--model=m|--property=p|--plan=007,268435456",
+        "check m p 1 plan 7,268435456 1000000 1",
+    ),
+    (
+        "check|--model=m|--property=p|--plan=268435456,9",
+        "check m p 1 plan 268435456,9 1000000 1",
+    ),
+    (
+        "check|--model=m|--property=p|--delta=1/20",
+        "check m p 1 wald 1/20 1/100 1/100 1000000 1",
+    ),
+    (
+        "check|--model=m|--property=p|--alpha|0.05",
+        "check m p 1 wald 1/100 1/20 1/100 1000000 1",
+    ),
+    (
+        "check|--model=m|--property=p|--beta=5e-2",
+        "check m p 1 wald 1/100 1/100 1/20 1000000 1",
+    ),
+    (
+        "check|--model=m|--property=p|--beta=2/8|--alpha=.5|--delta=3",
+        "check m p 1 wald 3/1 1/2 1/4 1000000 1",
+    ),
+    (
+        "check|--model=m|--property=p|--const=K=3",
+        "check m p int K=3/1 1 wald 1/100 1/100 1/100 1000000 1",
+    ),
+    (
+        "check|--model=m|--property=p|--const|K=-3",
+        "check m p int K=-3/1 1 wald 1/100 1/100 1/100 1000000 1",
+    ),
+    (
+        "check|--model=m|--property=p|--const=_a1=3.0",
+        "check m p double _a1=3/1 1 wald 1/100 1/100 1/100 1000000 1",
+    ),
+    (
+        "trace|--model=m|--const=K=1e2,L=-.5,M=true,K=false",
+        "trace m double K=100/1 double L=-1/2 bool M=true bool K=false 1 0 10",
+    ),
+    (
+        "trace|--model=m|--const=K=4611686018427387903",
+        "trace m int K=4611686018427387903/1 1 0 10",
+    ),
     ("trace|--model|m", "trace m 1 0 10"),
     ("trace|--steps=0|--model=m", "trace m 1 0 0"),
-    ("trace|--model=m|--steps|10000|--seed|2", "trace m 2 0 10000"),
-    ("trace|--model=m|--index=18446744073709551615", "trace m 1 18446744073709551615 10"),
+    (
+        "trace|--model=m|--steps|10000|--seed|2",
+        "trace m 2 0 10000",
+    ),
+    (
+        "trace|--model=m|--index=18446744073709551615",
+        "trace m 1 18446744073709551615 10",
+    ),
     ("trace|--model=m|--index=0", "trace m 1 0 10"),
     ("help", "help"),
 ];
@@ -267,13 +360,18 @@ fn constants_outside_the_form_give_nothing(rt: HostRuntime) -> Result<(), Fail> 
 }
 
 #[test]
-fn a_text_is_handed_on_without_a_copy_and_a_refusal_speaks_to_a_person(rt: HostRuntime) -> Result<(), Fail> {
+fn a_text_is_handed_on_without_a_copy_and_a_refusal_speaks_to_a_person(
+    rt: HostRuntime,
+) -> Result<(), Fail> {
     let argument = Argument::new(rt.alloc(), "chain.pm")?;
     assert_eq!(rt; argument.as_bytes(), b"chain.pm".as_slice());
     assert_eq!(rt; argument.into_string().as_str(), "chain.pm");
     one_settings();
     let told = Usage::Words.to_string(rt.alloc())?;
-    assert_eq!(rt; told.as_str(), "the words are no known command with its options");
+    assert_eq!(rt;
+        told.as_str(),
+        "the words are no known command with its options"
+    );
     let told = Usage::OutOfMemory(AllocError).to_string(rt.alloc())?;
     assert_eq!(rt; told.as_str(), "out of memory");
     Ok(())

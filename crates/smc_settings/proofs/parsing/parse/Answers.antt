@@ -1,5 +1,6 @@
 -- What the parse says of words that give options of the table.
-use Rattle.smc_settings.proofs.WalkLemmas.{found_value, error_kind, is_free, are_all_distinct}
+use Rattle.smc_settings.proofs.MatchLemmas.{found_value, error_kind, is_free}
+use Rattle.smc_settings.proofs.DistinctLemmas.{are_all_distinct}
 use Rattle.smc_settings.proofs.parsing.parse.Goals as goal
 
 pub returns-in-Ok-clause-distinct : goal.returns-in-Ok-clause-distinct
