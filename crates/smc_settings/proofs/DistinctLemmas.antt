@@ -1,5 +1,5 @@
 -- Where a parse has no fault, no option stands twice.
-use Rattle.std.proofs.Common.{◌≡◌, ◌+◌, true, false, List, [], ◌∷◌, ◌++◌, Some, refl, ap, sym, ◌∙◌, subst, fold}
+use Rattle.std.proofs.Common.{◌≡◌, true, false, List, [], ◌∷◌, ◌++◌, Some, refl, ap, sym, ◌∙◌, subst, fold}
 use Rattle.std.specs.List.{list_all}
 use Rattle.clap.specs.Walk.{Held, nothing_held, Walk, used, settled_rows, walked}
 use Rattle.clap.specs.Simple.{App}

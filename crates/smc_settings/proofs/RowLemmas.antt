@@ -1,7 +1,7 @@
 -- What is held of the options that a parse has passed.
-use Rattle.std.proofs.Common.{◌≡◌, ◌&&◌, ◌||◌, ◌+◌, true, false, List, [], ◌∷◌, ◌++◌, Some, None, refl, ap, sym, ◌∙◌, map, if◌then◌else◌, append-nil}
+use Rattle.std.proofs.Common.{◌≡◌, ◌&&◌, ◌||◌, true, false, List, [], ◌∷◌, ◌++◌, Some, None, refl, ap, sym, ◌∙◌, map, if◌then◌else◌, append-nil}
 use Rattle.std.specs.Str.{bytes_eq}
-use Rattle.clap.specs.Walk.{Held, nothing_held, settled, Row, at_row, without, with_values, has_row, used, settled_rows, reading_by, more_values}
+use Rattle.clap.specs.Walk.{Held, nothing_held, Row, at_row, without, with_values, has_row, used, settled_rows, reading_by, more_values}
 use Rattle.clap.specs.Faults.{use_fault, settle_fault}
 use Rattle.clap.specs.declared.parser.matches.ValueSource.TheVariants.{CommandLine}
 use Rattle.std.proofs.lemmas.List.{map-append}

@@ -1,5 +1,5 @@
 -- What a parse makes of one word.
-use Rattle.std.proofs.Common.{◌≡◌, ◌==◌, ℕ, ◌+◌, true, false, List, [], ◌∷◌, ◌++◌, Option, Some, None, refl, ap, ◌∙◌}
+use Rattle.std.proofs.Common.{◌≡◌, ◌==◌, ℕ, true, false, List, [], ◌∷◌, ◌++◌, Option, Some, None, refl, ap, ◌∙◌}
 use Rattle.clap.specs.Walk.{Held, Rule, Walk, used, settled_rows, idle, option, walked, after_step, after_flag, long_or_other, long_met}
 use Rattle.clap.specs.Lexer.{short_of}
 use Rattle.smc_settings.specs.Options.{Text, is_known}

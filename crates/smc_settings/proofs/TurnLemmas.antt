@@ -1,6 +1,6 @@
 -- The faults of one word.
-use Rattle.std.proofs.Common.{◌≡◌, ◌==◌, ℕ, ◌+◌, true, false, List, [], ◌∷◌, ◌++◌, Option, Some, None, refl, ap, ◌∙◌}
-use Rattle.clap.specs.Walk.{Held, settled, Rule, idle, after_flag, long_or_other, long_met}
+use Rattle.std.proofs.Common.{◌≡◌, ◌==◌, ℕ, true, false, List, [], ◌∷◌, ◌++◌, Option, Some, None, refl, ap, ◌∙◌}
+use Rattle.clap.specs.Walk.{Held, Rule, idle, after_flag, long_or_other, long_met}
 use Rattle.clap.specs.Faults.{flag_word_fault, step_fault, long_fault, react_fault, settle_fault, turn_fault}
 use Rattle.clap.specs.Kinds.{or_else, Kinds}
 use Rattle.smc_settings.specs.Options.{Text, is_known, is_given}

@@ -1,5 +1,5 @@
 -- Words that give options, each once, are walked to their rows without a fault.
-use Rattle.std.proofs.Common.{◌≡◌, ◌==◌, ◌+◌, true, false, not, List, [], ◌∷◌, ◌++◌, refl, ap, ◌∙◌, append-nil, append_assoc, fold}
+use Rattle.std.proofs.Common.{◌≡◌, ◌==◌, true, false, not, List, [], ◌∷◌, ◌++◌, refl, ap, ◌∙◌, append-nil, append_assoc, fold}
 use Rattle.std.specs.List.{list_all}
 use Rattle.clap.specs.Walk.{Held, nothing_held, Walk, walked}
 use Rattle.clap.specs.Faults.{walk_fault, turn_fault}
