@@ -25,7 +25,7 @@ rule_of claim (test.Plan n c) = rule.Plan (record { samples = n; acceptance_numb
 rule_of claim (test.Wald delta alpha beta) =
     rule.Wald (joined (probabilities_of (tested claim) delta) (errors_of alpha beta))
 
--- this is the goal of a claim under a test: where the claim is 'at most', a trace succeeds where its path formula is false
+-- the goal of a claim under a test: where the claim is 'at most', a trace succeeds where its path formula is false
 pub record IsGoal (claim : Claim) (words : TestWords) (most : ℕ) (goal : Goal) : Type 0 where
   pub rule : goal.rule ≡ rule_of claim words
   pub limit : goal.limit ≡ most

@@ -83,8 +83,8 @@ fn wald_makes(alloc: Global, row: (&str, bool, &str, &str, &str, &str)) -> Resul
     makes(alloc, theta, at_most, &test, want)
 }
 
-/// The probability of a claim, whether it is 'at most', the width, the two errors, and the two probabilities of the test
-/// or its fault.
+/// The probability of a claim, whether it is 'at most', the width, the two errors, and the test's probabilities or its
+/// fault.
 static WALD: [(&str, bool, &str, &str, &str, &str); 24] = [
     (
         "9/10",
@@ -244,16 +244,10 @@ fn a_plan_knows_no_probability(rt: HostRuntime) -> Result<(), Fail> {
     Ok(())
 }
 
-/// The fault of a plan, and what it says to a person.
-static PHRASES: [(SettingsFault, &str); 1] = [(
-    SettingsFault::Plan { n: 1, c: 1 },
-    "the acceptance number is not below the sample size",
-)];
-
 #[test]
 fn a_fault_speaks_to_a_person(rt: HostRuntime) -> Result<(), Fail> {
-    for (fault, text) in PHRASES {
-        assert_eq!(rt; format!(in rt.alloc(); "{fault}")?.as_str(), text);
-    }
+    let fault = SettingsFault::Plan { n: 1, c: 1 };
+    let told = format!(in rt.alloc(); "{fault}")?;
+    assert_eq!(rt; told.as_str(), "the acceptance number is not below the sample size");
     Ok(())
 }
