@@ -1,35 +1,22 @@
--- Where words have no fault, no option stands twice.
-use Rattle.std.proofs.Common.{◌≡◌, ◌&&◌, ℕ, true, false, List, [], ◌∷◌, ◌++◌, Some, None, refl, ap, sym, ◌∙◌, subst, if◌then◌else◌, fold}
+-- Where a parse has no fault, no option stands twice.
+use Rattle.std.proofs.Common.{◌≡◌, true, false, List, [], ◌∷◌, ◌++◌, Some, refl, ap, sym, ◌∙◌, subst, fold}
 use Rattle.std.specs.List.{list_all}
 use Rattle.clap.specs.Walk.{Held, nothing_held, Walk, used, settled_rows, walked}
 use Rattle.clap.specs.Simple.{App}
 use Rattle.clap.specs.Faults.{built_fault, entered_fault, use_fault, react_fault, fault_of, walk_fault, settle_fault, turn_fault}
 use Rattle.clap.specs.Kinds.{or_else, Kinds}
-use Rattle.clap.specs.declared.error.kind.ErrorKind.TheVariants as kind
-use Rattle.smc_settings.specs.Options.{Text, Gives, nothing, one_word, two_words, is_known, is_given, are_new, are_distinct}
-use Rattle.smc_settings.specs.Parse.{command_app, is_plain_name, is_name, rules_in, shape_with, IsTable}
-use Rattle.smc_settings.proofs.OptionLemmas.{known, rows, found_long, found_id, long_one, long_name, known_name, no_hyphen}
-use Rattle.smc_settings.proofs.WalkLemmas.{at, held_after_one, held_after_two, walked_one, waits_for, walked_name, walked_plain, row_found, used-new, turn_cut, turn_found}
+use Rattle.smc_settings.specs.Options.{Text, Gives, nothing, one_word, two_words, is_given, are_new, are_distinct}
+use Rattle.smc_settings.specs.Parse.{command_app, is_name, rules_in, shape_with, IsTable}
+use Rattle.smc_settings.proofs.NameLemmas.{known, found_id, known_name, no_hyphen}
+use Rattle.smc_settings.proofs.StepLemmas.{at, held_after_one, held_after_two, walked_one, waits_for, walked_name, walked_plain}
+use Rattle.smc_settings.proofs.RowLemmas.{rows, used-new, use-given}
+use Rattle.smc_settings.proofs.TurnLemmas.{turn_one_is, turn_name_is}
 use Rattle.smc_settings.proofs.MatchLemmas.{built_with, fault_built}
 
 -- where there is no fault, no name stands twice
 or_else_nil : (a b : Kinds) → or_else a b ≡ [] → (a ≡ []) × (b ≡ [])
 or_else_nil [] b e = (refl, e)
 or_else_nil (k ∷ a) b e = cc
-
-use-given : (name value : Text) (before : List (Text × Text)) → is_given name before ≡ true → use_fault false (known name) (value ∷ []) (rows before) ≡ kind.ArgumentConflict ∷ []
-use-given name value before e = ap (λ b. or_else (if b && true then kind.ArgumentConflict ∷ [] else []) []) (row_found name before ∙ e)
-
-turn_one_is : (table : List Text) (x : ℕ) (name value : Text) (h : Held) → is_plain_name (x ∷ name) ≡ true → is_known table (x ∷ name) ≡ true
-    → turn_fault (shape_with table) [] (at h) (45 ∷ 45 ∷ ((x ∷ name) ++ 61 ∷ value)) ≡ or_else (react_fault (rules_in table) false (known (x ∷ name)) (value ∷ []) h) []
-turn_one_is table x name value h plain is =
-    ap (turn_cut table (45 ∷ 45 ∷ ((x ∷ name) ++ 61 ∷ value)) h) (long_one x name value plain)
-    ∙ ap (turn_found table (45 ∷ 45 ∷ ((x ∷ name) ++ 61 ∷ value)) h (Some value)) (found_long table (x ∷ name) is)
-
-turn_name_is : (table : List Text) (x : ℕ) (name : Text) (h : Held) → is_plain_name (x ∷ name) ≡ true → is_known table (x ∷ name) ≡ true
-    → turn_fault (shape_with table) [] (at h) (45 ∷ 45 ∷ (x ∷ name)) ≡ or_else (settle_fault (rules_in table) false h) []
-turn_name_is table x name h plain is =
-    ap (turn_cut table (45 ∷ 45 ∷ (x ∷ name)) h) (long_name x name plain) ∙ ap (turn_found table (45 ∷ 45 ∷ (x ∷ name)) h None) (found_long table (x ∷ name) is)
 
 -- a walk with no fault, from here to its end
 pub record Faultless (table : List Text) (w : Walk) (words : List Text) : Type 0 where

@@ -4,7 +4,7 @@ use Rattle.std.specs.List.{list_all}
 use Rattle.smc_settings.specs.Options.{Text, Gives, nothing, one_word, two_words, is_known, is_value}
 use Rattle.smc_settings.specs.Parse.{is_name, IsOptionWord, IsNameWord, HasOptions, GoesOn}
 use Rattle.smc_settings.proofs.CutLemmas.{has, has_cut, cut_once}
-use Rattle.smc_settings.proofs.OptionLemmas.{known_name, not_given}
+use Rattle.smc_settings.proofs.NameLemmas.{known_name, not_given}
 
 -- a name has no `=`
 plain_of : (name : Text) → is_name name ≡ true → has 61 name ≡ false

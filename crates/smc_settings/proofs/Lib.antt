@@ -1,7 +1,10 @@
 pub mod CutLemmas
 pub mod PositionLemmas
+pub mod NameLemmas
 pub mod FormLemmas
-pub mod OptionLemmas
+pub mod StepLemmas
+pub mod RowLemmas
+pub mod TurnLemmas
 pub mod WalkLemmas
 pub mod MatchLemmas
 pub mod DistinctLemmas

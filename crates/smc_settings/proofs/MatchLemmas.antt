@@ -1,4 +1,4 @@
--- What a parse gives for words that give options: their rows, and no fault.
+-- What a parse makes of words that give options, each once.
 use Rattle.std.proofs.Common.{◌≡◌, ◌&&◌, Bool, true, false, not, List, [], ◌∷◌, Some, refl, ap, ◌∙◌, if◌then◌else◌, fold, ◌⊎◌, inl, inr, slice_get, find, is_some}
 use Rattle.std.specs.Option.{option_and_then}
 use Rattle.std.specs.List.{list_any}
@@ -18,11 +18,13 @@ use Rattle.clap.specs.declared.error.kind.ErrorKind.{ErrorKind}
 use Rattle.clap.specs.declared.error.kind.ErrorKind.TheVariants as kind
 use Rattle.smc_settings.specs.Options.{Text, Gives, are_distinct, value_in}
 use Rattle.smc_settings.specs.Parse.{command_app, rules_in, shape_with, IsTable}
-use Rattle.smc_settings.proofs.OptionLemmas.{row, rows, both}
-use Rattle.smc_settings.proofs.WalkLemmas.{at, Reads, Walks, walks}
+use Rattle.smc_settings.proofs.NameLemmas.{both}
+use Rattle.smc_settings.proofs.StepLemmas.{at}
+use Rattle.smc_settings.proofs.RowLemmas.{row, rows}
+use Rattle.smc_settings.proofs.WalkLemmas.{whole_walk}
 
 -- no option has a default
-pub same_if : {X : Type 0} (b : Bool) (x : X) → (if b then x else x) ≡ x
+same_if : {X : Type 0} (b : Bool) (x : X) → (if b then x else x) ≡ x
 same_if true x = refl
 same_if false x = refl
 
@@ -44,16 +46,8 @@ first-rows name (g ∷ given) = elim (bytes_eq g.0 name) as (λ b. option_and_th
 ]
 
 -- a command that is simple and free is simple
-pub simple : (table : List Text) → IsTable table → is_simple (command_app table) ≡ true
+simple : (table : List Text) → IsTable table → is_simple (command_app table) ≡ true
 simple table is = (both (is_simple (command_app table)) _ is.free).0
-
--- nothing is held before the first word
-reads_nothing : (table : List Text) → Reads table [] nothing_held
-reads_nothing table = record { settled = refl; passes = refl }
-
--- the walk over all words
-pub whole_walk : (table words : List Text) (given : List (Text × Text)) → IsTable table → Gives table words given → are_distinct given ≡ true → Walks table given (at nothing_held) words
-whole_walk table words given is gives new = walks table words given [] nothing_held is.names gives new (reads_nothing table)
 
 -- the matches of words that give options are their rows
 pub all_rows : (table words : List Text) (given : List (Text × Text)) → IsTable table → Gives table words given → are_distinct given ≡ true → matches_of (command_app table) words ≡ rows given

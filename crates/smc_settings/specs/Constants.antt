@@ -19,7 +19,8 @@ with_sign true text = 45 ∷ text
 -- a whole number is of sort `int`, a number with a fraction or an exponent of sort `double`, a truth value of sort `bool`
 pub data IsValueOf : Text → Sort → Value → Type 0 where
   whole : (negative : Bool) (digits : Text) (number : Fraction) → IsNumeral 10 digits
-      → value_of negative (decimal digits (pos 0)) ≡ Ok number → IsValueOf (with_sign negative digits) sort.Int (value.Num number)
+      → value_of negative (decimal digits (pos 0)) ≡ Ok number
+      → IsValueOf (with_sign negative digits) sort.Int (value.Num number)
   real : (negative : Bool) (text digits : Text) (power : ℤ) (number : Fraction) → IsSpelled text (decimal digits power)
       → (IsNumeral 10 text → ⊥) → value_of negative (decimal digits power) ≡ Ok number
       → IsValueOf (with_sign negative text) sort.Double (value.Num number)

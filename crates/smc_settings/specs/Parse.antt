@@ -13,7 +13,9 @@ option_rule name = record (new_rule name) { long = Some name }
 
 -- a command without options takes words alone, and has no flags of its own
 abbrev pub bare_app : App
-bare_app = on_top (λ s. record s { no_binary_name = true; disable_help_flag = true; disable_version_flag = true }) (new_app (codes "smc"))
+bare_app =
+    on_top (λ s. record s { no_binary_name = true; disable_help_flag = true; disable_version_flag = true })
+    (new_app (codes "smc"))
 
 -- a command with the options of a table
 abbrev pub command_app : List Text → App

@@ -13,7 +13,8 @@ use Rattle.smc_settings.specs.Constants.{ArePairsOr}
 -- the options of `check`
 abbrev pub check_table : List Text
 check_table =
-    codes "model" ∷ codes "property" ∷ codes "const" ∷ codes "seed" ∷ codes "plan" ∷ codes "delta" ∷ codes "alpha" ∷ codes "beta" ∷ codes "limit" ∷ codes "workers" ∷ []
+    codes "model" ∷ codes "property" ∷ codes "const" ∷ codes "seed" ∷ codes "plan" ∷ codes "delta" ∷ codes "alpha"
+    ∷ codes "beta" ∷ codes "limit" ∷ codes "workers" ∷ []
 
 -- the options of `trace`
 abbrev pub trace_table : List Text
@@ -22,8 +23,8 @@ trace_table = codes "model" ∷ codes "const" ∷ codes "seed" ∷ codes "index"
 -- the test of a run: a plan, with no number of Wald's test beside it, or Wald's test with its three numbers
 pub data IsTest : Option Text → Option Text → Option Text → Option Text → TestWords → Type 0 where
   plan : (text : Text) (words : TestWords) → plan_of text ≡ Some words → IsTest (Some text) None None None words
-  wald : (delta alpha beta : Option Text) (width first second : Fraction) → IsNumberOr delta width → IsNumberOr alpha first
-      → IsNumberOr beta second → IsTest None delta alpha beta (test.Wald width first second)
+  wald : (delta alpha beta : Option Text) (width first second : Fraction) → IsNumberOr delta width
+      → IsNumberOr alpha first → IsNumberOr beta second → IsTest None delta alpha beta (test.Wald width first second)
 
 -- the settings of `check`, a premise for each option
 pub data IsCheck (value : Text → Option Text) : Settings → Type 0 where

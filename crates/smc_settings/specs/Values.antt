@@ -16,7 +16,8 @@ is_whole text = nat_le 1 (length text) && nat_le (length text) 20 && list_all is
 -- a whole number from least to most
 abbrev pub whole_within : ℕ → ℕ → Text → Option ℕ
 whole_within least most text =
-    if is_whole text && nat_le least (digits_value 10 text) && nat_le (digits_value 10 text) most then Some (digits_value 10 text) else None
+    if is_whole text && nat_le least (digits_value 10 text) && nat_le (digits_value 10 text) most
+    then Some (digits_value 10 text) else None
 
 -- the whole number of an option, or its default where it isn't given
 abbrev pub whole_or : ℕ → ℕ → ℕ → Option Text → Option ℕ
@@ -43,4 +44,6 @@ plan_from (Some samples) (Some number) = Some (Plan samples number)
 
 -- a plan: two whole numbers of at most 2^28, with a comma between them
 abbrev pub plan_of : Text → Option TestWords
-plan_of text = plan_from (whole_within 0 (2 ^ 28) (before_first (λ byte. byte == 44) text)) (whole_within 0 (2 ^ 28) (after_first (λ byte. byte == 44) text))
+plan_of text =
+    plan_from (whole_within 0 (2 ^ 28) (before_first (λ byte. byte == 44) text))
+    (whole_within 0 (2 ^ 28) (after_first (λ byte. byte == 44) text))

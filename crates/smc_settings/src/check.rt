@@ -81,10 +81,12 @@ fn test(
     alpha: Option<&str>,
     beta: Option<&str>,
 ) -> Option<TestWords>
-    ensures found { IfSome result (λ words. IsTest (option_map (λ t. t.now) plan_text.entry) (option_map (λ t. t.now) delta.entry)
-        (option_map (λ t. t.now) alpha.entry) (option_map (λ t. t.now) beta.entry) words) }
+    ensures found { IfSome result (λ words. IsTest (option_map (λ t. t.now) plan_text.entry)
+        (option_map (λ t. t.now) delta.entry) (option_map (λ t. t.now) alpha.entry)
+        (option_map (λ t. t.now) beta.entry) words) }
     ensures none { IfNone result ((words : TestWords) → IsTest (option_map (λ t. t.now) plan_text.entry)
-        (option_map (λ t. t.now) delta.entry) (option_map (λ t. t.now) alpha.entry) (option_map (λ t. t.now) beta.entry) words → ⊥) }
+        (option_map (λ t. t.now) delta.entry) (option_map (λ t. t.now) alpha.entry)
+        (option_map (λ t. t.now) beta.entry) words → ⊥) }
 {
     match (plan_text, delta, alpha, beta) {
         (Some(text), None, None, None) => plan(text),

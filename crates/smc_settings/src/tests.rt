@@ -38,19 +38,6 @@ fn constants(alloc: Global, given: &[chain_model::Given]) -> Result<String, Allo
     Ok(all)
 }
 
-/// The settings of a test in one line.
-fn test_line(alloc: Global, test: &TestWords) -> Result<String, AllocError> {
-    match test {
-        TestWords::Plan { n, c } => format!(in alloc; "plan {n},{c}"),
-        TestWords::Wald { delta, alpha, beta } => {
-            let delta = number(alloc, delta)?;
-            let alpha = number(alloc, alpha)?;
-            let beta = number(alloc, beta)?;
-            format!(in alloc; "wald {delta} {alpha} {beta}")
-        }
-    }
-}
-
 /// Settings in one line.
 fn line(alloc: Global, settings: &Settings) -> Result<String, AllocError> {
     match settings {
@@ -64,7 +51,17 @@ fn line(alloc: Global, settings: &Settings) -> Result<String, AllocError> {
             workers,
         } => {
             let given = constants(alloc, given.as_slice())?;
-            let test = test_line(alloc, test)?;
+            let test = match test {
+                TestWords::Plan { n, c } => format!(in alloc; "plan {n},{c}")?,
+                TestWords::Wald { delta, alpha, beta } => {
+                    let (delta, alpha, beta) = (
+                        number(alloc, delta)?,
+                        number(alloc, alpha)?,
+                        number(alloc, beta)?,
+                    );
+                    format!(in alloc; "wald {delta} {alpha} {beta}")?
+                }
+            };
             let (model, property) = (model.as_str(), property.as_str());
             format!(in alloc; "check {model} {property}{given} {seed} {test} {limit} {workers}")
         }
@@ -83,8 +80,28 @@ fn line(alloc: Global, settings: &Settings) -> Result<String, AllocError> {
     }
 }
 
-/// Words, and their settings in one line.
-static FORMS: [(&str, &str); 29] = [
+/// Whether the words give these settings.
+fn gives(alloc: Global, text: &str, want: &str) -> Result<bool, Fail> {
+    let words = words(alloc, text)?;
+    let read = settings(alloc, words.as_slice())?;
+    let told = line(alloc, &read)?;
+    Ok(told.as_str() == want)
+}
+
+/// Whether the words are refused.
+fn refuses(alloc: Global, text: &str) -> Result<bool, AllocError> {
+    let words = words(alloc, text)?;
+    Ok(matches!(settings(alloc, words.as_slice()), Err(Usage::Words)))
+}
+
+/// Whether the words of a check with these options are refused.
+fn refuses_options(alloc: Global, options: &str) -> Result<bool, AllocError> {
+    let text = format!(in alloc; "check|--model=m|--property=p|{options}")?;
+    refuses(alloc, text.as_str())
+}
+
+/// Words, and their settings in a line.
+static SETTINGS: [(&str, &str); 29] = [
     (
         "check|--model=m|--property=p",
         "check m p 1 wald 1/100 1/100 1/100 1000000 1",
@@ -191,23 +208,15 @@ static FORMS: [(&str, &str); 29] = [
     ("help", "help"),
 ];
 
-/// Whether words give these settings.
-fn is_read(alloc: Global, text: &str, want: &str) -> Result<bool, Fail> {
-    let words = words(alloc, text)?;
-    let read = settings(alloc, words.as_slice())?;
-    let told = line(alloc, &read)?;
-    Ok(told.as_str() == want)
-}
-
 #[test]
 fn words_of_the_form_give_their_settings(rt: HostRuntime) -> Result<(), Fail> {
-    for (text, want) in &FORMS {
-        assert!(rt; is_read(rt.alloc(), text, want)?, "{text}");
+    for (text, want) in SETTINGS {
+        assert!(rt; gives(rt.alloc(), text, want)?, "{text}");
     }
     Ok(())
 }
 
-/// Words that have no settings.
+/// Words that are no command with its options.
 static COMMANDS: [&str; 18] = [
     "",
     "Check|--model=m|--property=p",
@@ -229,28 +238,16 @@ static COMMANDS: [&str; 18] = [
     "trace|--model=m|m",
 ];
 
-/// Whether words are refused.
-fn is_refused(alloc: Global, text: &str) -> Result<bool, AllocError> {
-    let words = words(alloc, text)?;
-    Ok(matches!(settings(alloc, words.as_slice()), Err(Usage::Words)))
-}
-
 #[test]
 fn words_outside_the_form_give_nothing(rt: HostRuntime) -> Result<(), Fail> {
     assert!(rt; matches!(settings(rt.alloc(), &[]), Err(Usage::Words)));
-    for text in &COMMANDS {
-        assert!(rt; is_refused(rt.alloc(), text)?, "{text}");
+    for text in COMMANDS {
+        assert!(rt; refuses(rt.alloc(), text)?, "{text}");
     }
     Ok(())
 }
 
-/// Whether the words of a check with these options are refused.
-fn refuses(alloc: Global, options: &str) -> Result<bool, AllocError> {
-    let text = format!(in alloc; "check|--model=m|--property=p|{options}")?;
-    is_refused(alloc, text.as_str())
-}
-
-/// Options that are outside the form.
+/// Words after a check's that are no options.
 static OPTIONS: [&str; 16] = [
     "check",
     "seed=1",
@@ -272,13 +269,13 @@ static OPTIONS: [&str; 16] = [
 
 #[test]
 fn options_outside_the_form_give_nothing(rt: HostRuntime) -> Result<(), Fail> {
-    for options in &OPTIONS {
-        assert!(rt; refuses(rt.alloc(), options)?, "{options}");
+    for text in OPTIONS {
+        assert!(rt; refuses_options(rt.alloc(), text)?, "{text}");
     }
     Ok(())
 }
 
-/// Options with values that are outside their range, or that stand twice.
+/// Options of a check that aren't known, stand twice or have a value outside their range.
 static VALUES: [&str; 16] = [
     "--speed|1",
     "--seed=1|--seed=1",
@@ -300,14 +297,14 @@ static VALUES: [&str; 16] = [
 
 #[test]
 fn values_outside_their_range_give_nothing(rt: HostRuntime) -> Result<(), Fail> {
-    for options in &VALUES {
-        assert!(rt; refuses(rt.alloc(), options)?, "{options}");
+    for text in VALUES {
+        assert!(rt; refuses_options(rt.alloc(), text)?, "{text}");
     }
     Ok(())
 }
 
-/// Options of a test that are outside the form.
-static TESTS: [&str; 12] = [
+/// Options of a check that are no test of a run.
+static TESTS: [&str; 13] = [
     "--plan=10,7,1",
     "--plan=,7",
     "--plan=10,",
@@ -320,19 +317,19 @@ static TESTS: [&str; 12] = [
     "--delta=1/0",
     "--alpha=x",
     "--beta=1e400",
+    "--delta=-1/100",
 ];
 
 #[test]
 fn tests_outside_the_form_give_nothing(rt: HostRuntime) -> Result<(), Fail> {
-    for options in &TESTS {
-        assert!(rt; refuses(rt.alloc(), options)?, "{options}");
+    for text in TESTS {
+        assert!(rt; refuses_options(rt.alloc(), text)?, "{text}");
     }
     Ok(())
 }
 
-/// Constants that are outside the form.
-static CONSTANTS: [&str; 20] = [
-    "--delta=-1/100",
+/// Options of a check that are no constants.
+static CONSTANTS: [&str; 19] = [
     "--const=K",
     "--const==1",
     "--const=K=",
@@ -356,8 +353,8 @@ static CONSTANTS: [&str; 20] = [
 
 #[test]
 fn constants_outside_the_form_give_nothing(rt: HostRuntime) -> Result<(), Fail> {
-    for options in &CONSTANTS {
-        assert!(rt; refuses(rt.alloc(), options)?, "{options}");
+    for text in CONSTANTS {
+        assert!(rt; refuses_options(rt.alloc(), text)?, "{text}");
     }
     Ok(())
 }

@@ -1,0 +1,4 @@
+pub mod OppositeLemmas
+pub mod RefusalLemmas
+pub mod ToldLemmas
+pub mod GoalLemmas
