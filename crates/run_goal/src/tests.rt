@@ -248,6 +248,9 @@ fn a_plan_knows_no_probability(rt: HostRuntime) -> Result<(), Fail> {
 fn a_fault_speaks_to_a_person(rt: HostRuntime) -> Result<(), Fail> {
     let fault = SettingsFault::Plan { n: 1, c: 1 };
     let told = format!(in rt.alloc(); "{fault}")?;
-    assert_eq!(rt; told.as_str(), "the acceptance number is not below the sample size");
+    assert_eq!(rt;
+        told.as_str(),
+        "the acceptance number is not below the sample size"
+    );
     Ok(())
 }
