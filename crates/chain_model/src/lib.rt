@@ -39,4 +39,8 @@ pub use values::{LabelValues, Sort, Value};
 #[cfg(test)]
 mod chain_tests;
 #[cfg(test)]
+mod job_tests;
+#[cfg(test)]
+mod parts;
+#[cfg(test)]
 mod tests;

@@ -2,11 +2,12 @@
 
 use super::*;
 use crate::fixtures::{Tree, chain, pair, typed};
-use chain_model::{Form, Op, Sort, TraceFault, Typed, Value};
+use chain_model::{Form, Func, Op, Sort, TraceFault, Typed, Value};
 use smc_num::Frac;
-use sqlite_items::Boxed;
+use sqlite_items::{Boxed, Items};
 use std::alloc::{AllocError, Global};
 use std::test::Fail;
+use std::thread::Builder;
 
 /// So many signs `-` before an expression.
 fn minus(alloc: Global, tree: Typed, signs: usize) -> Result<Typed, AllocError> {
@@ -123,5 +124,44 @@ fn the_deepest_expression_is_evaluated_and_dropped(rt: HostRuntime) -> Result<()
     for row in &DEPTHS {
         assert!(rt; is_evaluated(rt.alloc(), row)?);
     }
+    Ok(())
+}
+
+/// So many calls of `floor` within one another, each of as many signs `-` as may stand in a row, about the first variable.
+fn floors(alloc: Global, calls: usize) -> Result<Typed, AllocError> {
+    let mut tree = typed(alloc, Tree::Var(0))?;
+    for _ in 0..calls {
+        let mut parts = Items::new(alloc);
+        parts.push(minus(alloc, tree, 64)?)?;
+        tree = Typed {
+            sort: Sort::Int,
+            form: Form::Call(Func::Floor, parts),
+        };
+    }
+    Ok(tree)
+}
+
+/// Whether the deepest expression of signs has the value of its variable: formulas within one another make it as deep as
+/// it has nodes, 65,521.
+fn are_floors_evaluated(alloc: Global) -> Result<bool, AllocError> {
+    let tree = floors(alloc, 1_008)?;
+    match chain(alloc, 1, &[], &[])? {
+        Some(chain) => Ok(eval(&tree, &chain, &[0]) == whole(0)),
+        None => Ok(false),
+    }
+}
+
+/// How large the stack is on which the deepest expressions are evaluated, in bytes.
+const STACK: usize = 64 << 20;
+
+#[test]
+fn the_deepest_signs_are_evaluated_and_dropped_on_a_large_stack(
+    rt: HostRuntime,
+) -> Result<(), Fail> {
+    let alloc = rt.alloc();
+    let thread = Builder::new()
+        .stack_size(STACK)
+        .spawn(&rt, move || { are_floors_evaluated(alloc) == Ok(true) })?;
+    assert!(rt; thread.join(&rt));
     Ok(())
 }

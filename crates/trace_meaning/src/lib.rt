@@ -24,7 +24,11 @@ pub use step::plain_step;
 #[cfg(test)]
 mod depth_tests;
 #[cfg(test)]
+mod expected;
+#[cfg(test)]
 mod fixtures;
+#[cfg(test)]
+mod reading_tests;
 #[cfg(test)]
 mod step_tests;
 #[cfg(test)]

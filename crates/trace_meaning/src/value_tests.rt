@@ -1,43 +1,11 @@
-//! Values of expressions, worked out by hand.
+//! Values of chains of operators and of functions, worked out by hand.
 
-use super::*;
-use crate::fixtures::{Command, STAYS, Tree, chain, typed};
-use chain_model::{Form, Func, Op, Sort, TraceFault, Typed, Value};
-use smc_num::Frac;
-use sqlite_items::{Boxed, Items};
+use crate::expected::{Gives, ZERO_DIVISOR, given, value_in};
+use crate::fixtures::{Tree, typed};
+use chain_model::{Form, Func, Op, Sort, TraceFault, Typed};
+use sqlite_items::Items;
 use std::alloc::{AllocError, Global};
 use std::test::Fail;
-
-/// A value or a fault.
-#[derive(Clone, Copy)]
-enum Gives {
-    Truth(bool),
-    Number(i64, i64),
-    Fault(TraceFault),
-}
-
-fn given(gives: &Gives) -> Result<Value, TraceFault> {
-    match gives {
-        Gives::Truth(holds) => Ok(Value::Bool(*holds)),
-        Gives::Number(num, den) => match Frac::new(*num, *den) {
-            Ok(number) => Ok(Value::Num(number)),
-            Err(_) => Err(TraceFault::Choices),
-        },
-        Gives::Fault(fault) => Err(*fault),
-    }
-}
-
-/// What an expression gives in a state of the chain of two variables without a command.
-fn value_in(
-    alloc: Global,
-    tree: &Typed,
-    state: [i64; 2],
-) -> Result<Option<Result<Value, TraceFault>>, AllocError> {
-    match chain(alloc, 2, &[], &[])? {
-        Some(chain) => Ok(Some(eval(tree, &chain, state.as_slice()))),
-        None => Ok(None),
-    }
-}
 
 const YES: Option<Tree> = Some(Tree::Truth(true));
 
@@ -60,8 +28,6 @@ const FAULT: Option<Tree> = Some(Tree::Fault);
 const BROKEN: Option<Tree> = Some(Tree::FaultTruth);
 
 const GREATEST: i64 = 4_611_686_018_427_387_903;
-
-const ZERO_DIVISOR: Gives = Gives::Fault(TraceFault::ZeroDivisor);
 
 const OUT_OF_LIMIT: Gives = Gives::Fault(TraceFault::OutOfLimit);
 
@@ -334,158 +300,6 @@ fn is_called(alloc: Global, row: &Called) -> Result<bool, AllocError> {
 fn functions_give_what_the_table_says(rt: HostRuntime) -> Result<(), Fail> {
     for row in &CALLS {
         assert!(rt; is_called(rt.alloc(), row)?);
-    }
-    Ok(())
-}
-
-/// A conditional of these parts.
-fn conditional(
-    alloc: Global,
-    condition: Tree,
-    first: Tree,
-    second: Tree,
-) -> Result<Typed, AllocError> {
-    let condition = Boxed::new(alloc, typed(alloc, condition)?)?;
-    let first = Boxed::new(alloc, typed(alloc, first)?)?;
-    let second = Boxed::new(alloc, typed(alloc, second)?)?;
-    Ok(Typed {
-        sort: Sort::Double,
-        form: Form::If(condition, first, second),
-    })
-}
-
-/// A condition, two parts, and what the conditional gives where the variables are 3 and 2.
-static CONDITIONALS: [(Tree, Tree, Tree, Gives); 6] = [
-    (
-        Tree::Truth(true),
-        Tree::Number(1, 1),
-        Tree::Fault,
-        Gives::Number(1, 1),
-    ),
-    (
-        Tree::Truth(false),
-        Tree::Fault,
-        Tree::Number(1, 1),
-        Gives::Number(1, 1),
-    ),
-    (
-        Tree::Truth(true),
-        Tree::Fault,
-        Tree::Number(1, 1),
-        ZERO_DIVISOR,
-    ),
-    (
-        Tree::FaultTruth,
-        Tree::Number(1, 1),
-        Tree::Number(1, 1),
-        ZERO_DIVISOR,
-    ),
-    (
-        Tree::Is(1, 2),
-        Tree::Var(0),
-        Tree::Plus(0, 1),
-        Gives::Number(3, 1),
-    ),
-    (
-        Tree::Is(1, 1),
-        Tree::Var(0),
-        Tree::Plus(0, 1),
-        Gives::Number(4, 1),
-    ),
-];
-
-/// Whether a conditional gives what its row says.
-fn is_picked(alloc: Global, row: &(Tree, Tree, Tree, Gives)) -> Result<bool, AllocError> {
-    let (condition, first, second, gives) = row;
-    let tree = conditional(alloc, *condition, *first, *second)?;
-    Ok(value_in(alloc, &tree, [3, 2])? == Some(given(gives)))
-}
-
-#[test]
-fn conditionals_read_the_part_that_they_pick(rt: HostRuntime) -> Result<(), Fail> {
-    for row in &CONDITIONALS {
-        assert!(rt; is_picked(rt.alloc(), row)?);
-    }
-    Ok(())
-}
-
-/// Two modules with an action that each offers where its variable is 1, and a command of the second without an action
-/// where its variable is 3. A guard faults in no state.
-static SYNCHRONISED: [Command; 3] = [
-    Command {
-        action: Some(0),
-        guard: Tree::Is(0, 1),
-        ..STAYS
-    },
-    Command {
-        module: 1,
-        action: Some(0),
-        guard: Tree::Is(1, 1),
-        ..STAYS
-    },
-    Command {
-        module: 1,
-        guard: Tree::Is(1, 3),
-        ..STAYS
-    },
-];
-
-/// A label, the values of the variables, and whether the label holds.
-static LABELS: [(Tree, [i64; 2], Gives); 7] = [
-    (Tree::Init, [0, 0], Gives::Truth(true)),
-    (Tree::Init, [0, 1], Gives::Truth(false)),
-    (Tree::Deadlock, [0, 0], Gives::Truth(true)),
-    (Tree::Deadlock, [1, 0], Gives::Truth(true)),
-    (Tree::Deadlock, [0, 1], Gives::Truth(true)),
-    (Tree::Deadlock, [1, 1], Gives::Truth(false)),
-    (Tree::Deadlock, [0, 3], Gives::Truth(false)),
-];
-
-/// Whether a label holds in a state as its row says.
-fn is_label(alloc: Global, row: &(Tree, [i64; 2], Gives)) -> Result<bool, AllocError> {
-    let (label, state, gives) = row;
-    let tree = typed(alloc, *label)?;
-    match chain(alloc, 2, &[0, 1], &SYNCHRONISED)? {
-        Some(chain) => Ok(eval(&tree, &chain, state.as_slice()) == given(gives)),
-        None => Ok(false),
-    }
-}
-
-#[test]
-fn labels_speak_of_the_state(rt: HostRuntime) -> Result<(), Fail> {
-    for row in &LABELS {
-        assert!(rt; is_label(rt.alloc(), row)?);
-    }
-    Ok(())
-}
-
-/// A command whose guard faults.
-static FAULTS: [Command; 1] = [Command {
-    guard: Tree::FaultTruth,
-    ..STAYS
-}];
-
-/// What is told of that guard.
-static TOLD: [(Tree, Gives); 3] = [
-    (Tree::Deadlock, ZERO_DIVISOR),
-    (Tree::Init, Gives::Truth(true)),
-    (Tree::Var(0), Gives::Number(0, 1)),
-];
-
-/// Whether an expression gives what its row says where that guard stands in the chain.
-fn is_told(alloc: Global, row: &(Tree, Gives)) -> Result<bool, AllocError> {
-    let (tree, gives) = row;
-    let tree = typed(alloc, *tree)?;
-    match chain(alloc, 1, &[], &FAULTS)? {
-        Some(chain) => Ok(eval(&tree, &chain, &[0]) == given(gives)),
-        None => Ok(false),
-    }
-}
-
-#[test]
-fn a_guard_that_faults_is_told_only_where_deadlock_is_read(rt: HostRuntime) -> Result<(), Fail> {
-    for row in &TOLD {
-        assert!(rt; is_told(rt.alloc(), row)?);
     }
     Ok(())
 }
