@@ -1,7 +1,7 @@
 -- Blanks and comments before a token.
-use Rattle.std.specs.Prelude.{◌≡◌, ◌+◌, ◌≤◌, ◌==◌, not, ℕ, List, [], ◌∷◌, length, IsTrue}
+use Rattle.std.specs.Prelude.{◌≡◌, ◌+◌, ◌≤◌, ◌==◌, not, ℕ, List, [], length}
 use Rattle.std.specs.List.{prefix_len}
-use Rattle.prism_syntax.specs.Tokens.{BeginsNoComment, is_blank, Reads}
+use Rattle.prism_syntax.specs.Tokens.{Reads}
 
 -- how many bytes stand before the first line feed of a text
 abbrev pub line_len : List ℕ → ℕ

@@ -1,14 +1,14 @@
 -- Tokens begin a rule that is made of others exactly where they are a prefix of one of its texts.
-use Rattle.std.proofs.Common.{◌≡◌, ◌⊎◌, inl, inr, ℕ, ◌≤◌, List, [], ◌∷◌, ◌++◌, length, refl, sym, ◌∙◌, ap, subst, arith, append_assoc, append-nil}
+use Rattle.std.proofs.Common.{◌≡◌, ◌⊎◌, inl, inr, ℕ, List, [], ◌∷◌, ◌++◌, refl, sym, ◌∙◌, ap, subst, append_assoc, append-nil}
 use Rattle.prism_syntax.specs.declared.tokens.Kind.{Kind}
 use Rattle.prism_syntax.specs.declared.tokens.Kind.TheVariants as k
 use Rattle.prism_syntax.specs.Models.{Each, Separated}
 use Rattle.prism_syntax.specs.Models as model
 use Rattle.prism_reading.specs.Reach.{IsPrefix}
-use Rattle.prism_reading.specs.Sequences.{IsTerminal, terminal, IsName, name, IsQuoted, quoted, Both, both, OneOf}
-use Rattle.prism_reading.specs.Begins.{BeginsTerminal, BeginsName, BeginsQuoted, BeginsBoth, BeginsOneOf, BeginsEach, BeginsSeparated}
+use Rattle.prism_reading.specs.Sequences.{IsTerminal, terminal, IsName, name, IsQuoted, quoted, Both, OneOf}
+use Rattle.prism_reading.specs.Begins.{BeginsTerminal, BeginsName, BeginsQuoted, BeginsBoth, BeginsAfter, BeginsOneOf, BeginsEach, BeginsSeparated}
 use Rattle.prism_reading.specs.Begins as begin
-use Rattle.prism_reading.proofs.OverlapLemmas.{Overlap, within, beyond, overlap}
+use Rattle.prism_reading.proofs.OverlapLemmas.{within, beyond, overlap}
 use Rattle.prism_reading.proofs.DefiniteLemmas.{HasText, text_begins, nothing_begins, terminal_has, name_has, quoted_has}
 use Rattle.prism_reading.proofs.BothLemmas.{Ends, in_first, in_second, ends, inside_both, after_first}
 use Rattle.prism_reading.proofs.MadeLemmas.{IsMade, parts_begin, begins_parts}
@@ -187,3 +187,8 @@ separated_begun between one = record {
   to = λ p begins. separated_to between p begins.more (p ++ begins.more) begins.tree one begins.text refl;
   back = λ p begins. separated_back between p one begins;
 }
+
+-- a token, and then the rest
+pub after_begun : {Y : Type 0} {B : List Kind → Y → Type 0} {Starts : List Kind → Type 0} (t : Kind) → HasText B → BeginsExactly B Starts
+    → BeginsExactly (Both (IsTerminal t) B) (BeginsAfter t Starts)
+after_begun t has rest = both_begun has (terminal_begun t) rest

@@ -1,14 +1,14 @@
 -- A text of one rule and then one of another: what is found of both, and what is missing where one of them is.
 use Rattle.std.proofs.Common.{◌≡◌, ℕ, ◌≤◌, List, [], ◌∷◌, ◌++◌, length, refl, sym, ◌∙◌, ap, subst, arith, length-append, append_assoc, append-nil}
-use Rattle.std.proofs.lemmas.List.{length-map, map-append}
+use Rattle.std.proofs.lemmas.List.{map-append}
 use Rattle.prism_syntax.specs.declared.tokens.Kind.{Kind}
 use Rattle.prism_syntax.specs.declared.tokens.Token.{Token}
 use Rattle.prism_syntax.specs.Tokens.{kinds}
-use Rattle.prism_reading.specs.Reach.{IsPrefix, IsReach}
-use Rattle.prism_reading.specs.Reading.{Anything, Parses, Fails}
+use Rattle.prism_reading.specs.Reach.{IsPrefix}
+use Rattle.prism_reading.specs.Reading.{Parses, Fails}
 use Rattle.prism_reading.specs.Sequences.{Both, both}
 use Rattle.prism_reading.proofs.OverlapLemmas.{Overlap, within, beyond, overlap, regroup, cut_first}
-use Rattle.prism_reading.proofs.DefiniteLemmas.{Agrees, IsDefinite, HasText, Starts, Leads, found, kinds_cut, reach_within, text_begins}
+use Rattle.prism_reading.proofs.DefiniteLemmas.{IsDefinite, HasText, Starts, Leads, found, kinds_cut, reach_within, text_begins}
 
 -- tokens that begin both end inside the first, or inside the second after the first
 pub data Ends {X Y : Type 0} (A : List Kind → X → Type 0) (B : List Kind → Y → Type 0) (p : List Kind) : Type 0 where

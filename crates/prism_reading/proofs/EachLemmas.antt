@@ -1,16 +1,16 @@
 -- Texts of one rule, one after another.
 use Rattle.std.proofs.Common.{◌≡◌, ◌⊎◌, inl, inr, ℕ, ◌≤◌, ◌<◌, List, [], ◌∷◌, ◌++◌, length, refl, sym, ◌∙◌, ap, subst, arith, length-append, append_assoc, append-nil}
-use Rattle.std.proofs.lemmas.List.{length-map, map-append}
+use Rattle.std.proofs.lemmas.List.{map-append}
 use Rattle.prism_syntax.specs.declared.tokens.Kind.{Kind}
 use Rattle.prism_syntax.specs.declared.tokens.Token.{Token}
 use Rattle.prism_syntax.specs.Tokens.{kinds}
 use Rattle.prism_syntax.specs.Models.{Each}
 use Rattle.prism_syntax.specs.Models as model
 use Rattle.prism_reading.specs.Reach.{IsPrefix, IsReach}
-use Rattle.prism_reading.specs.Reading.{Anything, Parses, Fails}
+use Rattle.prism_reading.specs.Reading.{Parses, Fails}
 use Rattle.prism_reading.specs.Sequences.{Both, both}
-use Rattle.prism_reading.proofs.OverlapLemmas.{Overlap, within, beyond, overlap, regroup, cut_first}
-use Rattle.prism_reading.proofs.DefiniteLemmas.{Agrees, IsDefinite, HasText, Starts, Leads, found, kinds_cut, reach_within, text_begins}
+use Rattle.prism_reading.proofs.OverlapLemmas.{Overlap, within, beyond, overlap, regroup}
+use Rattle.prism_reading.proofs.DefiniteLemmas.{IsDefinite, HasText, Starts, Leads, found, reach_within, text_begins}
 use Rattle.prism_reading.proofs.BothLemmas.{Ends, in_first, in_second, first_missing, second_missing, inside_both}
 
 -- the first token of a text tells whether there is one more, and what follows each

@@ -1,5 +1,5 @@
 -- A text of a rule with the one token that ends it.
-use Rattle.std.proofs.Common.{List, [], ◌∷◌, ◌++◌, refl}
+use Rattle.std.proofs.Common.{List, refl}
 use Rattle.prism_syntax.specs.declared.tokens.Kind.{Kind}
 use Rattle.prism_reading.specs.Sequences.{Both, both, IsTerminal, terminal, Ended, ended}
 use Rattle.prism_reading.proofs.MadeLemmas.{Parted, IsMade}

@@ -10,3 +10,4 @@ pub mod OneOfLemmas
 pub mod EachLemmas
 pub mod SeparatedLemmas
 pub mod BegunLemmas
+pub mod AnswerLemmas

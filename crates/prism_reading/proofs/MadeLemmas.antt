@@ -1,13 +1,13 @@
 -- Rules whose texts are those of another, with trees made from its trees.
-use Rattle.std.proofs.Common.{◌≡◌, ℕ, ◌≤◌, List, [], ◌∷◌, ◌++◌, length, refl, sym, ◌∙◌, ap, subst, arith}
+use Rattle.std.proofs.Common.{◌≡◌, ℕ, List, [], ◌∷◌, ◌++◌, refl, sym, ◌∙◌, ap}
 use Rattle.prism_syntax.specs.declared.tokens.Kind.{Kind}
 use Rattle.prism_syntax.specs.declared.tokens.Token.{Token}
 use Rattle.prism_syntax.specs.Tokens.{kinds}
 use Rattle.prism_reading.specs.Reach.{IsPrefix, IsReach}
-use Rattle.prism_reading.specs.Reading.{Anything, Parses, Fails}
+use Rattle.prism_reading.specs.Reading.{Parses, Fails}
 use Rattle.prism_reading.specs.Sequences.{Made}
 use Rattle.prism_reading.specs.Sequences as sequence
-use Rattle.prism_reading.proofs.DefiniteLemmas.{Agrees, IsDefinite, HasText, Starts, Leads}
+use Rattle.prism_reading.proofs.DefiniteLemmas.{IsDefinite, HasText, Starts}
 
 -- the parts of a tree of a rule, with their text
 pub record Parted {P Z : Type 0} (Parts : List Kind → P → Type 0) (make : P → Z) (a : List Kind) (z : Z) : Type 0 where

@@ -1,13 +1,13 @@
 -- A text of one rule or of another: what is found, and what is missing.
-use Rattle.std.proofs.Common.{◌≡◌, ◌⊎◌, inl, inr, ⊎_elim, ℕ, ◌≤◌, List, [], ◌∷◌, ◌++◌, length, refl, sym, ◌∙◌, ap, subst, arith, length-append}
+use Rattle.std.proofs.Common.{◌≡◌, ◌⊎◌, inl, inr, ⊎_elim, ℕ, ◌≤◌, List, [], ◌∷◌, ◌++◌, length, refl, sym, ap, subst, arith, length-append}
 use Rattle.std.proofs.lemmas.List.{length-map}
 use Rattle.prism_syntax.specs.declared.tokens.Kind.{Kind}
 use Rattle.prism_syntax.specs.declared.tokens.Token.{Token}
 use Rattle.prism_syntax.specs.Tokens.{kinds}
 use Rattle.prism_reading.specs.Reach.{IsPrefix, IsReach}
-use Rattle.prism_reading.specs.Reading.{Anything, Parses, Fails}
+use Rattle.prism_reading.specs.Reading.{Parses, Fails}
 use Rattle.prism_reading.specs.Sequences.{OneOf, first, second}
-use Rattle.prism_reading.proofs.DefiniteLemmas.{Agrees, IsDefinite, HasText, Starts, Leads, found, kinds_cut, reach_within}
+use Rattle.prism_reading.proofs.DefiniteLemmas.{IsDefinite, HasText, Starts, found, reach_within}
 
 -- tokens that begin one of two rules
 either_of : {X Y : Type 0} {A : List Kind → X → Type 0} {B : List Kind → Y → Type 0} (p more l : List Kind) (z : X ⊎ Y)

@@ -1,5 +1,5 @@
 -- Lists of tokens that are cut in two ways.
-use Rattle.std.proofs.Common.{◌≡◌, ◌≤◌, List, [], ◌∷◌, ◌++◌, length, refl, sym, ◌∙◌, ap, arith, length-append, append_assoc}
+use Rattle.std.proofs.Common.{◌≡◌, List, [], ◌∷◌, ◌++◌, refl, sym, ◌∙◌, ap, append_assoc}
 use Rattle.prism_syntax.specs.declared.tokens.Kind.{Kind}
 
 -- of two prefixes of one list, the second ends within the first, or after it

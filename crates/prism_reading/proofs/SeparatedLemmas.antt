@@ -1,17 +1,16 @@
 -- Texts of one rule with a token between each two of them.
-use Rattle.std.proofs.Common.{◌≡◌, ℕ, ◌≤◌, ◌<◌, List, [], ◌∷◌, ◌++◌, length, map, refl, sym, ◌∙◌, ap, subst, arith, length-append, append_assoc, append-nil}
+use Rattle.std.proofs.Common.{◌≡◌, ℕ, ◌<◌, List, [], ◌∷◌, ◌++◌, length, map, refl, sym, ◌∙◌, ap, subst, arith, length-append, append_assoc, append-nil}
 use Rattle.std.proofs.lemmas.List.{length-map, map-append}
 use Rattle.prism_syntax.specs.declared.tokens.Kind.{Kind}
 use Rattle.prism_syntax.specs.declared.tokens.Token.{Token}
 use Rattle.prism_syntax.specs.Tokens.{kinds}
 use Rattle.prism_syntax.specs.Models.{Each, Separated}
 use Rattle.prism_syntax.specs.Models as model
-use Rattle.prism_reading.specs.Reach.{IsPrefix, IsReach}
+use Rattle.prism_reading.specs.Reach.{IsPrefix}
 use Rattle.prism_reading.specs.Reading.{Anything, Parses, Fails}
 use Rattle.prism_reading.specs.Sequences.{Both, both, IsTerminal, terminal}
-use Rattle.prism_reading.proofs.OverlapLemmas.{Overlap, within, beyond, overlap, regroup, cut_first}
-use Rattle.prism_reading.proofs.DefiniteLemmas.{Agrees, IsDefinite, HasText, Starts, Leads, anything_leads, starts_lead, found, kinds_cut, reach_within, text_begins, terminal_definite, terminal_starts}
-use Rattle.prism_reading.proofs.BothLemmas.{first_missing, second_missing, inside_both, after_first, both_definite, both_starts, both_has}
+use Rattle.prism_reading.proofs.DefiniteLemmas.{IsDefinite, HasText, Starts, Leads, anything_leads, starts_lead, found, kinds_cut, terminal_definite, terminal_starts}
+use Rattle.prism_reading.proofs.BothLemmas.{first_missing, second_missing, inside_both, both_definite, both_starts, both_has}
 use Rattle.prism_reading.proofs.MadeLemmas.{Parted, IsMade, made_definite, made_starts}
 use Rattle.prism_reading.proofs.EachLemmas.{Repeats, each_definite, each_leads, Onward, onward_more}
 use Rattle.prism_reading.proofs.DefiniteLemmas.{terminal_has}

@@ -1,6 +1,6 @@
 -- What the first token tells of the rules whose texts are single tokens.
-use Rattle.std.proofs.Common.{◌≡◌, ℕ, ◌+◌, ◌≤◌, List, [], ◌∷◌, ◌++◌, length, refl, sym, ap, ◌∙◌, subst, arith}
-use Rattle.std.proofs.lemmas.List.{append-nil, length-append}
+use Rattle.std.proofs.Common.{◌≡◌, ℕ, List, [], ◌∷◌, ◌++◌, length, refl, sym, ap, ◌∙◌, subst, arith}
+use Rattle.std.proofs.lemmas.List.{length-append}
 use Rattle.prism_syntax.specs.declared.tokens.Kind.{Kind}
 use Rattle.prism_syntax.specs.declared.tokens.Kind.TheVariants as k
 use Rattle.prism_syntax.specs.declared.tokens.Token.{Token}
@@ -8,7 +8,7 @@ use Rattle.prism_syntax.specs.Tokens.{kinds}
 use Rattle.prism_reading.specs.Reach.{IsPrefix, IsReach}
 use Rattle.prism_reading.specs.Reading.{Anything, Parses, Fails}
 use Rattle.prism_reading.specs.Sequences.{IsTerminal, terminal, IsName, name, IsQuoted, quoted}
-use Rattle.prism_reading.proofs.ReachLemmas.{count_kinds, heads, tails, whole_prefix, reach_nil}
+use Rattle.prism_reading.proofs.ReachLemmas.{count_kinds, heads, whole_prefix, reach_nil}
 
 -- a rule has a text, and each text of it is a single token
 pub record IsSingle {X : Type 0} (Rule : List Kind → X → Type 0) : Type 0 where

@@ -1,7 +1,8 @@
 -- Tokens with which texts of rules begin, for rules that are made of others.
-use Rattle.std.specs.Prelude.{◌≡◌, ◌⊎◌, ℕ, List, ◌++◌, ◌∷◌, []}
+use Rattle.std.specs.Prelude.{◌⊎◌, ℕ, List, ◌++◌, ◌∷◌, []}
 use Rattle.prism_syntax.specs.declared.tokens.Kind.{Kind}
 use Rattle.prism_syntax.specs.declared.tokens.Kind.TheVariants as k
+use Rattle.prism_reading.specs.Sequences.{IsTerminal}
 
 -- nothing, or the one token of this kind
 pub data BeginsTerminal (kind : Kind) : List Kind → Type 0 where
@@ -22,6 +23,10 @@ pub data BeginsQuoted : List Kind → Type 0 where
 pub data BeginsBoth {X : Type 0} (First : List Kind → X → Type 0) (BeginsFirst BeginsSecond : List Kind → Type 0) : List Kind → Type 0 where
   inside : {a : List Kind} → BeginsFirst a → BeginsBoth First BeginsFirst BeginsSecond a
   after : {a b : List Kind} {x : X} → First a x → BeginsSecond b → BeginsBoth First BeginsFirst BeginsSecond (a ++ b)
+
+-- one token, and then what begins the rest
+abbrev pub BeginsAfter : Kind → (List Kind → Type 0) → List Kind → Type 0
+BeginsAfter token BeginsRest = BeginsBoth (IsTerminal token) (BeginsTerminal token) BeginsRest
 
 -- the tokens begin a text of one rule or of another
 abbrev pub BeginsOneOf : (List Kind → Type 0) → (List Kind → Type 0) → List Kind → Type 0

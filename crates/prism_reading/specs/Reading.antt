@@ -1,5 +1,6 @@
--- What parsing by a rule of the grammar tells: a text that the tokens begin with, or that there is none, and how far they begin one.
-use Rattle.std.specs.Prelude.{◌≡◌, ℕ, List, ◌++◌, ◌∷◌, [], Result, Ok, Err}
+-- What parsing by a rule of the grammar tells: a text that the tokens begin with, or that there is none, and how far
+-- they begin one.
+use Rattle.std.specs.Prelude.{◌≡◌, ℕ, List, ◌++◌, Result, Ok, Err}
 use Rattle.prism_syntax.specs.declared.tokens.Kind.{Kind}
 use Rattle.prism_syntax.specs.declared.tokens.Token.{Token}
 use Rattle.prism_syntax.specs.Tokens.{kinds}
@@ -11,7 +12,8 @@ use Rattle.prism_reading.specs.Reach.{IsPrefix, IsReach}
 abbrev pub Anything : List Kind → Type 0
 Anything after = Unit {0}
 
--- the tokens begin with a text of the rule, with this tree, and such tokens follow it; so many of all tokens are left from the first wrong one on
+-- the tokens begin with a text of the rule, with this tree, and such tokens follow it; so many of all tokens are left
+-- from the first wrong one on
 pub record Parses {X : Type 0} (Rule : List Kind → X → Type 0) (Follows : List Kind → Type 0) (tokens : List Token) (tree : X) (rest : List Token) (left : ℕ) : Type 0 where
   pub prefix : List Token
   pub cut : tokens ≡ prefix ++ rest
@@ -19,7 +21,8 @@ pub record Parses {X : Type 0} (Rule : List Kind → X → Type 0) (Follows : Li
   pub follows : Follows (kinds rest)
   pub reach : IsReach (IsPrefix Rule) (kinds tokens) left
 
--- no prefix of the tokens is a text of the rule that such tokens follow; so many of all tokens are left from the first wrong one on
+-- no prefix of the tokens is a text of the rule that such tokens follow; so many of all tokens are left from the first
+-- wrong one on
 pub record Fails {X : Type 0} (Rule : List Kind → X → Type 0) (Follows : List Kind → Type 0) (tokens : List Token) (left : ℕ) : Type 0 where
   pub none : (prefix after : List Kind) (tree : X) → kinds tokens ≡ prefix ++ after → Rule prefix tree → Follows after → ⊥
   pub reach : IsReach (IsPrefix Rule) (kinds tokens) left

@@ -1,5 +1,5 @@
 -- Rules that are made of others: single tokens, one rule after another, a rule with its end, one rule or another.
-use Rattle.std.specs.Prelude.{◌≡◌, ◌⊎◌, ℕ, List, ◌++◌, ◌∷◌, []}
+use Rattle.std.specs.Prelude.{◌⊎◌, ℕ, List, ◌++◌, ◌∷◌, []}
 use mathlib.Core.Logic.{inl, inr}
 use Rattle.prism_syntax.specs.declared.tokens.Kind.{Kind}
 use Rattle.prism_syntax.specs.declared.tokens.Kind.TheVariants as k

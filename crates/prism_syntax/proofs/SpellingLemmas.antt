@@ -1,5 +1,5 @@
 -- The reserved word that a text is, and the longest symbol with which it begins.
-use Rattle.std.proofs.Common.{◌≡◌, ◌≤◌, ◌<◌, inl, inr, ℕ, Bool, true, false, ◌&&◌, not, List, [], ◌∷◌, ◌++◌, length, take, drop, nat_le, bytes_eq, Option, Some, None, refl, sym, ap, ◌∙◌, subst, arith, ◌↔◌, take-append-drop, length-append}
+use Rattle.std.proofs.Common.{◌≡◌, ◌≤◌, ◌<◌, inl, inr, ℕ, Bool, true, false, ◌&&◌, not, List, ◌++◌, length, take, drop, nat_le, bytes_eq, Option, Some, None, refl, sym, ap, ◌∙◌, subst, arith, ◌↔◌, take-append-drop, length-append}
 use lib.Seq.{take-append_seam}
 use Rattle.std.proofs.lemmas.List.{length-take}
 use Rattle.std.specs.Prelude.{IfSome}
@@ -8,7 +8,7 @@ use Rattle.std.proofs.lemmas.Option.{none-some}
 use Rattle.std.proofs.lemmas.Bool.{and_parts, leb-true, cases_lt}
 use Rattle.std.proofs.lemmas.Slice.Eq.{bytes_eq-Decides}
 use Rattle.prism_syntax.specs.declared.tokens.Kind.{Kind}
-use Rattle.prism_syntax.specs.Spelling.{spelling_of, symbolic, is_symbol}
+use Rattle.prism_syntax.specs.Spelling.{spelling_of, is_symbol}
 use Rattle.prism_syntax.specs.Tokens.{IsReservedWord, IsNotReserved, IsLongestSymbol, BeginsNoSymbol}
 use Rattle.prism_syntax.specs.SpellingTables.{one_letter_words, four_letter_words, five_letter_words, middle_words, short_words, long_words, one_byte_symbols, two_byte_symbols, three_byte_symbols, words_of, symbols_of}
 use Rattle.prism_syntax.proofs.ListedLemmas.{listed_word, listed_symbol}

@@ -44,11 +44,13 @@ pub record IsLongestSymbol (text : List ℕ) (kind : Kind) : Type 0 where
   pub symbol : is_symbol kind ≡ true
   pub spelling : spelling_of kind ≡ Some bytes
   pub cut : text ≡ bytes ++ after
-  pub longest : (other : Kind) (front rest : List ℕ) → is_symbol other ≡ true → spelling_of other ≡ Some front → text ≡ front ++ rest → length front ≤ length bytes
+  pub longest : (other : Kind) (front rest : List ℕ) → is_symbol other ≡ true → spelling_of other ≡ Some front
+      → text ≡ front ++ rest → length front ≤ length bytes
 
 -- a text that begins with no symbol
 abbrev pub BeginsNoSymbol : List ℕ → Type 0
-BeginsNoSymbol text = (kind : Kind) (bytes after : List ℕ) → is_symbol kind ≡ true → spelling_of kind ≡ Some bytes → text ≡ bytes ++ after → ⊥
+BeginsNoSymbol text = (kind : Kind) (bytes after : List ℕ) → is_symbol kind ≡ true → spelling_of kind ≡ Some bytes
+    → text ≡ bytes ++ after → ⊥
 
 -- the kind of a number that has a value; one that is too wide has none
 abbrev pub number_kind : (Fraction → Kind) → Result Fraction ReadNum → Option Kind
@@ -60,7 +62,8 @@ pub data IsToken : List ℕ → Option Kind → Type 0 where
   fixed : (bytes : List ℕ) (kind : Kind) → spelling_of kind ≡ Some bytes → IsToken bytes (Some kind)
   name : (bytes : List ℕ) → IsWord bytes → IsFree bytes → IsToken bytes (Some (k.Name bytes))
   quoted : (bytes : List ℕ) → IsWord bytes → IsToken (34 ∷ (bytes ++ (34 ∷ []))) (Some (k.Quoted bytes))
-  whole : (digits : List ℕ) → IsNumeral 10 digits → IsToken digits (number_kind k.Whole (value_of false (decimal digits (pos 0))))
+  whole : (digits : List ℕ) → IsNumeral 10 digits
+      → IsToken digits (number_kind k.Whole (value_of false (decimal digits (pos 0))))
   real : (bytes digits : List ℕ) (power : ℤ) → IsSpelled bytes (decimal digits power) → (IsNumeral 10 bytes → ⊥)
       → IsToken bytes (number_kind k.Real (value_of false (decimal digits power)))
 
@@ -68,7 +71,8 @@ pub data IsToken : List ℕ → Option Kind → Type 0 where
 pub record IsFirstToken (text bytes : List ℕ) (kind : Option Kind) (rest : List ℕ) : Type 0 where
   pub cut : text ≡ bytes ++ rest
   pub token : IsToken bytes kind
-  pub longest : (front after : List ℕ) (other : Option Kind) → text ≡ front ++ after → IsToken front other → length rest ≤ length after
+  pub longest : (front after : List ℕ) (other : Option Kind) → text ≡ front ++ after → IsToken front other
+      → length rest ≤ length after
 
 -- a space, a tab, a line feed, a carriage return or a form feed
 abbrev pub is_blank : ℕ → Bool
@@ -96,7 +100,8 @@ pub data Reads : ℕ → List ℕ → List Token → ℕ → List ℕ → Type 0
       → IsTrue (is_one_line line) → EndsLine text → Reads (at + (2 + length line)) text tokens end rest
       → Reads at (47 ∷ (47 ∷ (line ++ text))) tokens end rest
   token : (at : ℕ) (text bytes : List ℕ) (kind : Kind) (after : List ℕ) (tokens : List Token) (end : ℕ) (rest : List ℕ)
-      → BeginsNoComment text → IsFirstToken text bytes (Some kind) after → Reads (at + length bytes) after tokens end rest
+      → BeginsNoComment text → IsFirstToken text bytes (Some kind) after
+      → Reads (at + length bytes) after tokens end rest
       → Reads at text (record { kind = kind; from = at; to = at + length bytes } ∷ tokens) end rest
 
 -- the text is cut into these tokens

@@ -1,6 +1,6 @@
-use Rattle.std.proofs.Common.{true, false, ◌≡◌, sym, ap, ◌∙◌, refl}
+use Rattle.std.proofs.Common.{sym, ap, ◌∙◌}
 use Rattle.prism_reading.proofs.ReachLemmas.{heads}
-use Rattle.prism_reading.proofs.TerminalLemmas.{terminal_parses, other_kind}
+use Rattle.prism_reading.proofs.TerminalLemmas.{terminal_parses}
 use Rattle.prism_syntax.specs.Tokens.{kinds}
 use Rattle.prism_reading.proofs.terminals.accept.Goals as goal
 

@@ -1,5 +1,4 @@
-use Rattle.std.proofs.Common.{◌≡◌, refl, sym, subst, arith, Some, None}
-use Rattle.std.specs.Prelude.{IfSome}
+use Rattle.std.proofs.Common.{◌≡◌, refl, sym, subst, arith}
 use Rattle.prism_syntax.proofs.SpellingLemmas.{found_at, longest_symbol, some_symbol, last_symbol, Misses}
 use Rattle.prism_syntax.proofs.symbols.symbol.Goals as goal
 
