@@ -1,0 +1,16 @@
+pub mod WholeLemmas
+pub mod CaseLemmas
+pub mod ChainLemmas
+pub mod JunctionLemmas
+pub mod ExtremeLemmas
+pub mod KindLemmas
+pub mod JoinLemmas
+pub mod SumLemmas
+pub mod FormLemmas
+pub mod CompileLemmas
+pub mod GuardLemmas
+pub mod StuckLemmas
+pub mod InitialLemmas
+pub mod RunLemmas
+pub mod CodeLemmas
+pub mod NodeLemmas

@@ -1,0 +1,45 @@
+-- The values of nodes, kind by kind.
+use Rattle.std.proofs.Common.{◌≡◌, ℕ, List, map, Ok, sym, ap, ◌∙◌}
+use Rattle.std.specs.Prelude.{ℤ, ◌+ℤ◌}
+use Rattle.std.specs.List.{list_all, list_any}
+use Rattle.chain_model.specs.declared.values.LabelValues.{LabelValues}
+use Rattle.chain_model.specs.declared.values.Value.{Value}
+use Rattle.chain_model.specs.declared.values.Value.TheVariants as v
+use Rattle.chain_model.specs.declared.expressions.Func.{Func}
+use Rattle.chain_model.specs.declared.expressions.Op.{Op}
+use Rattle.chain_model.specs.States.{State}
+use Rattle.chain_model.specs.Values.{Valued}
+use Rattle.guard_code.specs.declared.nodes.Node.{Node}
+use Rattle.guard_code.specs.declared.nodes.Node.TheVariants as n
+use Rattle.guard_code.specs.declared.nodes.Node.TheOpen as top
+use Rattle.guard_code.specs.declared.nodes.Node.TheFolds.{fold-roll-Node}
+use Rattle.guard_code.specs.declared.plain_tests.Test.{Test}
+use Rattle.guard_code.specs.Tests.{number_in, test_holds}
+use Rattle.guard_code.specs.Wholes.{as_whole, stored_of, wholes_result, extreme_result}
+use Rattle.guard_code.specs.Nodes.{node_step, node_value}
+
+pub value-lit : (l : LabelValues) (s : State) (x : Value) → node_value l s (n.Lit x) ≡ Ok x
+value-lit l s x = ap (node_value l s) (sym (n.rolls-Lit x)) ∙ fold-roll-Node Valued (node_step l s) (top.Lit x)
+
+pub value-number : (l : LabelValues) (s : State) (x : ℕ) → node_value l s (n.Number x) ≡ as_whole (Ok (number_in s x))
+value-number l s x = ap (node_value l s) (sym (n.rolls-Number x)) ∙ fold-roll-Node Valued (node_step l s) (top.Number x)
+
+pub value-shifted : (l : LabelValues) (s : State) (x : ℕ) (c : ℤ) → node_value l s (n.Shifted x c) ≡ as_whole (Ok (number_in s x +ℤ c))
+value-shifted l s x c = ap (node_value l s) (sym (n.rolls-Shifted x c)) ∙ fold-roll-Node Valued (node_step l s) (top.Shifted x c)
+
+pub value-plain : (l : LabelValues) (s : State) (t : Test) → node_value l s (n.Plain t) ≡ Ok (v.Bool (test_holds s t))
+value-plain l s t = ap (node_value l s) (sym (n.rolls-Plain t)) ∙ fold-roll-Node Valued (node_step l s) (top.Plain t)
+
+pub value-every : (l : LabelValues) (s : State) (ts : List Test) → node_value l s (n.Every ts) ≡ Ok (v.Bool (list_all (test_holds s) ts))
+value-every l s ts = ap (node_value l s) (sym (n.rolls-Every ts)) ∙ fold-roll-Node Valued (node_step l s) (top.Every ts)
+
+pub value-any : (l : LabelValues) (s : State) (ts : List Test) → node_value l s (n.Any ts) ≡ Ok (v.Bool (list_any (test_holds s) ts))
+value-any l s ts = ap (node_value l s) (sym (n.rolls-Any ts)) ∙ fold-roll-Node Valued (node_step l s) (top.Any ts)
+
+pub value-extreme : (l : LabelValues) (s : State) (func : Func) (ps : List Node)
+    → node_value l s (n.Extreme func ps) ≡ as_whole (extreme_result func (map stored_of (map (node_value l s) ps)))
+value-extreme l s func ps = ap (node_value l s) (sym (n.rolls-Extreme func ps)) ∙ fold-roll-Node Valued (node_step l s) (top.Extreme func ps)
+
+pub value-arithmetic : (l : LabelValues) (s : State) (ps : List Node) (ops : List Op)
+    → node_value l s (n.Arithmetic ps ops) ≡ as_whole (wholes_result (map stored_of (map (node_value l s) ps)) ops)
+value-arithmetic l s ps ops = ap (node_value l s) (sym (n.rolls-Arithmetic ps ops)) ∙ fold-roll-Node Valued (node_step l s) (top.Arithmetic ps ops)

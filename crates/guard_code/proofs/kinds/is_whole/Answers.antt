@@ -1,0 +1,30 @@
+-- The kinds of nodes that give whole numbers alone.
+use Rattle.std.proofs.Common.{◌≡◌, rules}
+use Rattle.guard_code.specs.declared.nodes.Node.TheVariants as n
+use Rattle.guard_code.proofs.JoinLemmas.{whole_of_number, whole_of_shifted, whole_of_arithmetic, whole_of_extreme, whole_of_literal}
+use Rattle.guard_code.proofs.kinds.is_whole.Goals as goal
+
+pub returns-in-Number : goal.returns-in-Number
+returns-in-Number c = λ holds.
+    let is : c.args.node.now ≡ n.Number c.in-Number._variable = search rules in
+    whole_of_number c.args.node.now c.in-Number._variable is
+
+pub returns-in-Shifted : goal.returns-in-Shifted
+returns-in-Shifted c = λ holds.
+    let is : c.args.node.now ≡ n.Shifted c.in-Shifted._variable c.in-Shifted._by = search rules in
+    whole_of_shifted c.args.node.now c.in-Shifted._variable c.in-Shifted._by is
+
+pub returns-in-Arithmetic : goal.returns-in-Arithmetic
+returns-in-Arithmetic c = λ holds.
+    let is : c.args.node.now ≡ n.Arithmetic c.in-Arithmetic._parts c.in-Arithmetic._ops = search rules in
+    whole_of_arithmetic c.args.node.now c.in-Arithmetic._parts c.in-Arithmetic._ops is
+
+pub returns-in-Extreme : goal.returns-in-Extreme
+returns-in-Extreme c = λ holds.
+    let is : c.args.node.now ≡ n.Extreme c.in-Extreme._func c.in-Extreme._parts = search rules in
+    whole_of_extreme c.args.node.now c.in-Extreme._func c.in-Extreme._parts is
+
+pub returns-in-Lit : goal.returns-in-Lit
+returns-in-Lit c = λ holds.
+    let is : c.args.node.now ≡ n.Lit c.in-Lit.value = search rules in
+    whole_of_literal c.args.node.now c.in-Lit.value is (c.is_whole_literal.ensures holds)

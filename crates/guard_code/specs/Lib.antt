@@ -1,0 +1,8 @@
+pub mod Tests
+pub mod Wholes
+pub mod Nodes
+pub mod Shapes
+pub mod Means
+pub mod Joins
+pub mod Guards
+pub mod Codes

@@ -1,0 +1,94 @@
+//! Compiles expressions.
+
+ghost use Rattle.std.specs.Prelude.{◌≡◌, IfOk};
+ghost use Rattle.chain_model.specs.declared.values.LabelValues.{LabelValues};
+ghost use Rattle.chain_model.specs.States.{State};
+ghost use Rattle.chain_model.specs.Values.{variable_value};
+ghost use Rattle.guard_code.specs.Tests.{number_in};
+ghost use Rattle.guard_code.specs.Wholes.{truth_of, choice_value};
+ghost use Rattle.guard_code.specs.Nodes.{node_value};
+ghost use Rattle.guard_code.specs.Means.{Always, Means, AllMean};
+
+use crate::calling::call_node;
+use crate::joining::chain_node;
+use crate::nodes::Node;
+use crate::plain_tests::Test;
+use crate::signs::{minus_node, negation_node};
+use chain_model::{Form, Sort, Typed};
+use sqlite_items::{Boxed, Items};
+use std::alloc::{AllocError, Global};
+
+/// A variable of a sort.
+#[tactic(auto, unfolding(crate::specs::Wholes::as_whole))]
+fn variable(sort: Sort, number: u32) -> Node
+    ensures { (labels : LabelValues) (state : State) → node_value labels state result ≡ variable_value sort (number_in state number) }
+{
+    match sort {
+        Sort::Bool => Node::Plain(Test::Other(number, 0)),
+        Sort::Int | Sort::Double => Node::Number(number),
+    }
+}
+
+/// A conditional.
+fn conditional(
+    alloc: Global,
+    condition: Node,
+    first: Node,
+    second: Node,
+) -> Result<Node, AllocError>
+    ensures { IfOk result (λ made. Always (λ labels state. node_value labels state made
+        ≡ choice_value (truth_of (node_value labels state condition)) (node_value labels state first) (node_value labels state second))) }
+{
+    let condition = Boxed::new(alloc, condition)?;
+    let first = Boxed::new(alloc, first)?;
+    let second = Boxed::new(alloc, second)?;
+    Ok(Node::If(condition, first, second))
+}
+
+/// The node of an expression.
+#[cycle(compiling)]
+pub fn node_of(alloc: Global, expr: &Typed) -> Result<Node, AllocError>
+    ensures { IfOk result (λ node. Means node expr.now) }
+{
+    match &expr.form {
+        Form::Lit(value) => Ok(Node::Lit(*value)),
+        Form::Var(number) => Ok(variable(expr.sort, *number)),
+        Form::Call(func, parts) => {
+            let arguments = nodes_of(alloc, parts.as_slice())?;
+            Ok(call_node(*func, arguments))
+        }
+        Form::Not(part) => {
+            let denied = node_of(alloc, part.get())?;
+            negation_node(alloc, denied)
+        }
+        Form::Minus(part) => {
+            let number = node_of(alloc, part.get())?;
+            minus_node(alloc, number)
+        }
+        Form::Level(parts, ops) => {
+            let operands = nodes_of(alloc, parts.as_slice())?;
+            chain_node(alloc, operands, ops.as_slice())
+        }
+        Form::If(condition, first, second) => {
+            let condition = node_of(alloc, condition.get())?;
+            let first = node_of(alloc, first.get())?;
+            let second = node_of(alloc, second.get())?;
+            conditional(alloc, condition, first, second)
+        }
+        Form::IsInit => Ok(Node::IsInit),
+        Form::IsDeadlock => Ok(Node::IsDeadlock),
+    }
+}
+
+/// The nodes of expressions, one for one.
+#[cycle(compiling)]
+fn nodes_of(alloc: Global, exprs: &[Typed]) -> Result<Items<Node>, AllocError>
+    ensures { IfOk result (λ nodes. AllMean nodes exprs.now) }
+{
+    let mut nodes = Items::new(alloc);
+    for expr in exprs {
+        let node = node_of(alloc, expr)?;
+        nodes.push(node)?;
+    }
+    Ok(nodes)
+}
