@@ -1,0 +1,8 @@
+use Rattle.std.proofs.Common.{◌≡◌, ◌++◌, map, take}
+use Rattle.module_expand.specs.Duplicates.{label_declarations}
+use Rattle.module_expand.proofs.declarations.note_labels.Given as goal
+
+-- the declarations so far
+abbrev pub invariant-loop-label : goal.invariant-loop-label
+invariant-loop-label l = map (λ d. (d.kind, d.name.now)) l.all.items ≡ map (λ d. (d.kind, d.name.now))
+    l.initial.all.items ++ label_declarations (map (λ v. v.name) (take l.label-index l.labels))

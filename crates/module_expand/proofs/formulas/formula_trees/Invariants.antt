@@ -1,0 +1,11 @@
+use Rattle.std.proofs.Common.{List, take, bytes_eq}
+use Rattle.indexmap.specs.IndexMap.{get}
+use Rattle.prism_syntax.specs.declared.models.Named.{Named}
+use Rattle.module_expand.specs.Expanded.{AreExpanded, stands_for}
+use Rattle.module_expand.proofs.OrderLemmas.{Knows}
+use Rattle.module_expand.proofs.formulas.formula_trees.Given as goal
+
+-- the trees of the formulas so far
+abbrev pub invariant-loop-place : goal.invariant-loop-place
+invariant-loop-place l = (trees : List Named) → AreExpanded l.formulas trees → Knows l.formulas (stands_for trees)
+    (get bytes_eq l.trees) (take l.place-index l.order)

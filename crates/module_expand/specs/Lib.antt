@@ -1,0 +1,10 @@
+pub mod Expanded
+pub mod Renamed
+pub mod Flat
+pub mod Listed
+pub mod Duplicates
+pub mod Refusals
+pub mod LeftOut
+pub mod Properties
+pub mod Sizes
+pub mod Times

@@ -1,0 +1,6 @@
+mod accepted;
+mod duplicates;
+mod large;
+mod models;
+mod renamings;
+mod told;
