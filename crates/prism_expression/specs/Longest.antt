@@ -9,7 +9,8 @@ use Rattle.prism_syntax.specs.Tokens.{kinds}
 use Rattle.prism_syntax.specs.Expressions.{Derives}
 use Rattle.prism_reading.specs.Reading.{Anything, Parses}
 
--- the tokens begin with a text of the rule, and no text of it leaves fewer tokens; so many of all tokens are left from the first wrong one on
+-- the tokens begin with a text of the rule, and no text of it leaves fewer tokens; so many of all tokens are left from
+-- the first wrong one on
 pub record IsLongest {X : Type 0} (Rule : List Kind → X → Type 0) (tokens : List Token) (tree : X) (rest : List Token) (left : ℕ) : Type 0 where
   pub parses : Parses Rule Anything tokens tree rest left
   pub longest : (prefix after : List Kind) (other : X) → kinds tokens ≡ prefix ++ after → Rule prefix other → length rest ≤ length after

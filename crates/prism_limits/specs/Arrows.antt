@@ -12,7 +12,8 @@ use Rattle.prism_syntax.specs.declared.precedence.Precedence.TheVariants as rule
 use Rattle.prism_syntax.specs.Expressions.{Derives}
 use Rattle.prism_limits.specs.Words.{EndsInRewards}
 
--- the token with this index is an arrow of a chain that has an arrow before it: one operand of such a chain, and nothing else, stands between the two, and they stand outside each rewards block
+-- the token with this index is an arrow of a chain that has an arrow before it: one operand of such a chain, and nothing
+-- else, stands between the two, and they stand outside each rewards block
 pub record IsLaterArrow (labels : Labels) (tokens : List Kind) (index : ℕ) : Type 0 where
   pub before : List Kind
   pub operand : List Kind
@@ -24,7 +25,8 @@ pub record IsLaterArrow (labels : Labels) (tokens : List Kind) (index : ℕ) : T
   pub outside : EndsInRewards before → ⊥
 
 mutual
-  -- a chain of the tree has two or more arrows: the tree is a chain whose first two operators are arrows, or a part of it has such a chain
+  -- a chain of the tree has two or more arrows: the tree is a chain whose first two operators are arrows, or a part of
+  -- it has such a chain
   pub data HasLongChain : Expr → Type 0 where
     arrows : (xs : List Expr) (os : List Op) → HasLongChain (e.Level xs (o.Imp ∷ (o.Imp ∷ os)))
     in_operand : (xs : List Expr) (os : List Op) → OneHasLongChain xs → HasLongChain (e.Level xs os)

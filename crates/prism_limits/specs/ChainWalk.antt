@@ -58,7 +58,8 @@ outermost [] = []
 outermost (x ∷ []) = []
 outermost (x ∷ (y ∷ ys)) = x ∷ outermost (y ∷ ys)
 
--- a place: whether it is inside a rewards block, the index of the last arrow of the chain there, where one stands before it, and those of the chains around its parentheses, the outermost first
+-- a place: whether it is inside a rewards block, the index of the last arrow of the chain there, where one stands before
+-- it, and those of the chains around its parentheses, the outermost first
 pub record Place : Type 0 where
   pub inside : Bool
   pub last : Option ℕ

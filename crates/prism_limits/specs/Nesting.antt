@@ -49,7 +49,9 @@ bracket_limit = 17
 abbrev pub query_limit : ℕ
 query_limit = 1024
 
--- after these tokens a token is one too many: the parentheses opened before it are as many more than the closed ones as may be, or as many signs of its kind as may be stand right before it, or as many `?` as may be since the last `;`; in a nested formula also where the square brackets opened before it are as many more than the closed ones as may be
+-- after these tokens a token is one too many: the parentheses opened before it are as many more than the closed ones as
+-- may be, or as many signs of its kind as may be stand right before it, or as many `?` as may be since the last `;`; in
+-- a nested formula also where the square brackets opened before it are as many more than the closed ones as may be
 pub data IsTooMany (text : TextKind) : List Kind → Kind → Type 0 where
   parenthesis : (before : List Kind) → nesting_limit + count_by is_closing before ≤ count_by is_opening before → IsTooMany text before k.Open
   sign : (before : List Kind) (token : Kind) → is_sign token ≡ true → IsTooMany text (before ++ replicate nesting_limit token) token

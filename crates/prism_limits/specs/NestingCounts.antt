@@ -33,7 +33,8 @@ abbrev pub are_brackets_full : TextKind → ℕ → Bool
 are_brackets_full Nested more = nat_le bracket_limit more
 are_brackets_full _ more = false
 
--- these are the counts of the tokens: the parentheses and square brackets among all of them, the signs in a row at their end, and the `?` since the last `;`
+-- these are the counts of the tokens: the parentheses and square brackets among all of them, the signs in a row at their
+-- end, and the `?` since the last `;`
 pub record AreCountsOf (counts : NestingCounts) (tokens : List Kind) : Type 0 where
   pub opened : counts.opened ≡ count_by is_opening tokens
   pub closed : counts.closed ≡ count_by is_closing tokens

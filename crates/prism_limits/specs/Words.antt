@@ -13,11 +13,13 @@ has_operator Nested k.W = true
 has_operator Nested k.R = true
 has_operator _ _ = false
 
--- a reserved word of the language that texts of this kind refuse: those that the profile leaves out, but for their operators
+-- a reserved word of the language that texts of this kind refuse: those that the profile leaves out, but for their
+-- operators
 abbrev pub refuses_word : TextKind → Kind → Bool
 refuses_word text token = is_refused token && not (has_operator text token)
 
--- a token that is refused where these tokens follow it: a reserved word that texts of this kind refuse, or the name `log` or `round` with `(` after it
+-- a token that is refused where these tokens follow it: a reserved word that texts of this kind refuse, or the name
+-- `log` or `round` with `(` after it
 pub data IsRefused (text : TextKind) : Kind → List Kind → Type 0 where
   word : (token : Kind) (after : List Kind) → refuses_word text token ≡ true → IsRefused text token after
   log : (after : List Kind) → IsRefused text (k.Name (codes "log")) (k.Open ∷ after)

@@ -14,7 +14,7 @@ use Rattle.prism_syntax.specs.Models as model
 use Rattle.prism_reading.specs.Reach.{IsPrefix}
 use Rattle.prism_reading.specs.Sequences.{IsTerminal, terminal, IsName, Both, both, OneOf}
 use Rattle.prism_reading.specs.Sequences as sequence
-use Rattle.prism_reading.specs.Begins.{BeginsTerminal, BeginsName, BeginsBoth, BeginsOneOf, BeginsEach}
+use Rattle.prism_reading.specs.Begins.{BeginsAfter, BeginsTerminal, BeginsName, BeginsBoth, BeginsOneOf, BeginsEach}
 use Rattle.prism_reading.proofs.OverlapLemmas.{Overlap, within, beyond, overlap}
 use Rattle.prism_reading.proofs.DefiniteLemmas.{HasText, text_begins, nothing_begins, terminal_has, name_has, quoted_has}
 use Rattle.prism_reading.proofs.BothLemmas.{both_has}
@@ -22,12 +22,12 @@ use Rattle.prism_reading.proofs.MadeLemmas.{Parted, IsMade, is_made}
 use Rattle.prism_reading.proofs.EndedLemmas.{ended_made}
 use Rattle.prism_reading.proofs.EachLemmas.{each_has}
 use Rattle.prism_reading.proofs.SeparatedLemmas.{separated_has}
-use Rattle.prism_reading.proofs.BegunLemmas.{BeginsExactly, terminal_begun, name_begun, quoted_begun, both_begun, one_of_begun, made_begun, each_begun, separated_begun}
+use Rattle.prism_reading.proofs.BegunLemmas.{BeginsExactly, terminal_begun, name_begun, quoted_begun, both_begun, one_of_begun, made_begun, each_begun, separated_begun, after_begun}
 use Rattle.prism_expression.specs.Begins.{Begins}
 use Rattle.prism_expression.proofs.BeginLemmas.{begins_prefix, prefix_begins}
 use Rattle.prism_expression.proofs.FormedLemmas.{all_front}
 use Rattle.prism_model.specs.Parts.{IsExprUntil, IsSortWord, word, sort_of, IsSorted, IsOptionalEnded, IsRange, IsActionEnded, AreBranchesEnded, IsRenaming, IsBody, EndsRewards, ends, IsPassed}
-use Rattle.prism_model.specs.Begins.{BeginsAfter, BeginsNamed, BeginsExpr, BeginsUntil, BeginsOptional, BeginsSort, BeginsSorted, BeginsConst, BeginsFormula, BeginsLabel, BeginsRange, BeginsVariable, BeginsGlobal, BeginsAssign, BeginsSets, BeginsWeighted, BeginsBranches, BeginsAction, BeginsCommand, BeginsPair, BeginsRenaming, BeginsBody, BeginsModule, BeginsEnd, inside, whole, BeginsRewards, BeginsItem, BeginsModel}
+use Rattle.prism_model.specs.Begins.{BeginsNamed, BeginsExpr, BeginsUntil, BeginsOptional, BeginsSort, BeginsSorted, BeginsConst, BeginsFormula, BeginsLabel, BeginsRange, BeginsVariable, BeginsGlobal, BeginsAssign, BeginsSets, BeginsWeighted, BeginsBranches, BeginsAction, BeginsCommand, BeginsPair, BeginsRenaming, BeginsBody, BeginsModule, BeginsEnd, inside, whole, BeginsRewards, BeginsItem, BeginsModel}
 use Rattle.prism_model.specs.Begins as begin
 use Rattle.prism_model.proofs.ExpressionLemmas.{until_has}
 use Rattle.prism_model.proofs.LineLemmas.{optional_made, const_made, formula_made, label_made, variable_made, global_made, assign_made, update_made, weighted_made, branches_made, command_made, pair_made, module_made, rewards_made}
@@ -35,9 +35,6 @@ use Rattle.prism_model.proofs.DefiniteLineLemmas.{word_has, action_has, sorted_h
 use Rattle.prism_model.proofs.BranchLemmas.{branches_has}
 use Rattle.prism_model.proofs.ModuleLemmas.{guard_has, commands_has, body_has, module_rest_has}
 use Rattle.prism_model.proofs.RewardsLemmas.{GoesOn, ends_has}
-
-after_begun : {Y : Type 0} {B : List Kind → Y → Type 0} {Starts : List Kind → Type 0} (t : Kind) → HasText B → BeginsExactly B Starts → BeginsExactly (Both (IsTerminal t) B) (BeginsAfter t Starts)
-after_begun t has rest = both_begun has (terminal_begun t) rest
 
 named_begun : {Y : Type 0} {B : List Kind → Y → Type 0} {Starts : List Kind → Type 0} → HasText B → BeginsExactly B Starts → BeginsExactly (Both IsName B) (BeginsNamed Starts)
 named_begun has rest = both_begun has name_begun rest

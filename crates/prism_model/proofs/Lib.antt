@@ -1,4 +1,3 @@
-pub mod AnswerLemmas
 pub mod ForeignLemmas
 pub mod ExpressionLemmas
 pub mod LineLemmas

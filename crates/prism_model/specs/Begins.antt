@@ -1,5 +1,5 @@
--- Which tokens begin a model: one definition for each line of the grammar, in the order of the line's parts. The tokens end
--- inside one part, where the parts before it are whole and the tokens from there on begin that part.
+-- Which tokens begin a model: one definition for each line of the grammar, in the order of the line's parts. The tokens
+-- end inside one part, where the parts before it are whole and the tokens from there on begin that part.
 use Rattle.std.specs.Prelude.{◌≡◌, ◌⊎◌, List, [], ◌∷◌, ◌++◌, All}
 use Rattle.prism_syntax.specs.declared.labels.Labels.TheVariants.{Refused}
 use Rattle.prism_syntax.specs.declared.precedence.Precedence.TheVariants as rule
@@ -8,13 +8,9 @@ use Rattle.prism_syntax.specs.declared.tokens.Kind.TheVariants as k
 use Rattle.prism_syntax.specs.Expressions.{Derives}
 use Rattle.prism_syntax.specs.Models.{IsVariable, IsAssign, IsUpdate, IsWeighted, IsCommand, IsPair, IsItem, Each, Separated}
 use Rattle.prism_reading.specs.Sequences.{IsTerminal, IsName, IsQuoted, OneOf}
-use Rattle.prism_reading.specs.Begins.{BeginsTerminal, BeginsName, BeginsQuoted, BeginsBoth, BeginsOneOf, BeginsEach, BeginsSeparated}
+use Rattle.prism_reading.specs.Begins.{BeginsTerminal, BeginsName, BeginsQuoted, BeginsBoth, BeginsAfter, BeginsOneOf, BeginsEach, BeginsSeparated}
 use Rattle.prism_expression.specs.Begins.{Begins}
 use Rattle.prism_model.specs.Parts.{IsExprUntil, IsSortWord, IsSorted, IsRange, IsActionEnded}
-
--- one token, and then what begins the rest
-abbrev pub BeginsAfter : Kind → (List Kind → Type 0) → List Kind → Type 0
-BeginsAfter token BeginsRest = BeginsBoth (IsTerminal token) (BeginsTerminal token) BeginsRest
 
 -- a name, and then what begins the rest
 abbrev pub BeginsNamed : (List Kind → Type 0) → List Kind → Type 0
@@ -85,7 +81,8 @@ BeginsWeighted = BeginsBoth (IsExprUntil k.Colon) (BeginsUntil k.Colon) BeginsSe
 abbrev pub BeginsBranches : List Kind → Type 0
 BeginsBranches = BeginsOneOf
     (BeginsBoth IsUpdate BeginsSets (BeginsTerminal k.Semicolon))
-    (BeginsBoth (Separated k.Plus IsWeighted) (BeginsSeparated k.Plus IsWeighted BeginsWeighted) (BeginsTerminal k.Semicolon))
+    (BeginsBoth (Separated k.Plus IsWeighted) (BeginsSeparated k.Plus IsWeighted BeginsWeighted)
+    (BeginsTerminal k.Semicolon))
 
 -- the action of a command, or none, up to the `]` after it
 abbrev pub BeginsAction : List Kind → Type 0
@@ -93,7 +90,8 @@ BeginsAction = BeginsOneOf (BeginsNamed (BeginsTerminal k.CloseBracket)) (Begins
 
 -- the line of a command
 abbrev pub BeginsCommand : List Kind → Type 0
-BeginsCommand = BeginsAfter k.OpenBracket (BeginsBoth IsActionEnded BeginsAction (BeginsBoth (IsExprUntil k.Arrow) (BeginsUntil k.Arrow) BeginsBranches))
+BeginsCommand = BeginsAfter k.OpenBracket (BeginsBoth IsActionEnded BeginsAction
+    (BeginsBoth (IsExprUntil k.Arrow) (BeginsUntil k.Arrow) BeginsBranches))
 
 -- a name and what replaces it
 abbrev pub BeginsPair : List Kind → Type 0
@@ -101,7 +99,8 @@ BeginsPair = BeginsNamed (BeginsAfter k.Equal BeginsName)
 
 -- the rest of a module that is a copy of another
 abbrev pub BeginsRenaming : List Kind → Type 0
-BeginsRenaming = BeginsNamed (BeginsAfter k.OpenBracket (BeginsBoth (Separated k.Comma IsPair) (BeginsSeparated k.Comma IsPair BeginsPair)
+BeginsRenaming = BeginsNamed (BeginsAfter k.OpenBracket
+    (BeginsBoth (Separated k.Comma IsPair) (BeginsSeparated k.Comma IsPair BeginsPair)
     (BeginsAfter k.CloseBracket (BeginsTerminal k.EndModule))))
 
 -- the rest of a module that is written out
@@ -124,8 +123,10 @@ BeginsRewards = BeginsAfter k.Rewards BeginsEnd
 
 -- an item of a model
 abbrev pub BeginsItem : List Kind → Type 0
-BeginsItem tokens = BeginsConst tokens ⊎ (BeginsGlobal tokens ⊎ (BeginsFormula tokens ⊎ (BeginsModule tokens ⊎ (BeginsLabel tokens ⊎ BeginsRewards tokens))))
+BeginsItem tokens = BeginsConst tokens ⊎ (BeginsGlobal tokens ⊎ (BeginsFormula tokens ⊎ (BeginsModule tokens
+    ⊎ (BeginsLabel tokens ⊎ BeginsRewards tokens))))
 
 -- the tokens begin a model
 abbrev pub BeginsModel : List Kind → Type 0
-BeginsModel = BeginsBoth (OneOf (IsTerminal k.Dtmc) (IsTerminal k.Probabilistic)) (BeginsOneOf (BeginsTerminal k.Dtmc) (BeginsTerminal k.Probabilistic)) (BeginsEach IsItem BeginsItem)
+BeginsModel = BeginsBoth (OneOf (IsTerminal k.Dtmc) (IsTerminal k.Probabilistic))
+    (BeginsOneOf (BeginsTerminal k.Dtmc) (BeginsTerminal k.Probabilistic)) (BeginsEach IsItem BeginsItem)

@@ -1,4 +1,5 @@
--- The parts of the lines of a model that are parsed each on its own, and what may follow those that have no end of their own.
+-- The parts of the lines of a model that are parsed each on its own, and what may follow those that have no end of their
+-- own.
 use Rattle.std.specs.Prelude.{◌≡◌, ◌⊎◌, ℕ, List, [], ◌∷◌, ◌++◌, All, Option, Some, None}
 use mathlib.Core.Logic.{inl, inr}
 use Rattle.prism_syntax.specs.declared.labels.Labels.TheVariants.{Refused}

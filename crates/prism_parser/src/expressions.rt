@@ -24,14 +24,18 @@ pub fn expression(alloc: Global, tokens: &[Token], at: u32) -> Result<(Expr, u32
     requires within { at ≤ length tokens.now }
     requires count { length tokens.now < 2 ^ 32 }
     ensures ok { (tree : Expr) (next : ℕ)
-        → ComesWhere result (Ok (tree, next)) (IsAccepted Property (FindsExpression tokens.now at) HasLong tokens.now at (tree, next)) }
+        → ComesWhere result (Ok (tree, next))
+        (IsAccepted Property (FindsExpression tokens.now at) HasLong tokens.now at (tree, next)) }
     ensures unsupported { (word : List ℕ) (place : ℕ)
-        → ComesWhere result (Err (ParseFault.Unsupported word place)) (IsUnsupported Property (FindsExpression tokens.now at) HasLong tokens.now at word place) }
+        → ComesWhere result (Err (ParseFault.Unsupported word place))
+        (IsUnsupported Property (FindsExpression tokens.now at) HasLong tokens.now at word place) }
     ensures too_deep { (place : ℕ)
         → ComesWhere result (Err (ParseFault.TooDeep place)) (RefusesNesting Property tokens.now at place) }
     ensures not_in_grammar { (place : ℕ)
-        → ComesWhere result (Err (ParseFault.NotInGrammar place)) (RefusesGrammar Property (BeginsNoExpression tokens.now at) tokens.now at place) }
-    ensures formed { All (λ token. IsFormedKind token.kind) tokens.now → IfOk result (λ found. IsFormed Allowed found.0) }
+        → ComesWhere result (Err (ParseFault.NotInGrammar place))
+        (RefusesGrammar Property (BeginsNoExpression tokens.now at) tokens.now at place) }
+    ensures formed { All (λ token. IsFormedKind token.kind) tokens.now
+        → IfOk result (λ found. IsFormed Allowed found.0) }
 {
     parse_in_order(alloc, tokens, at as usize)
 }
@@ -40,7 +44,8 @@ pub fn expression(alloc: Global, tokens: &[Token], at: u32) -> Result<(Expr, u32
 fn parse_in_order(alloc: Global, tokens: &[Token], start: usize) -> Result<(Expr, u32), ParseFault>
     requires within { start ≤ length tokens.now }
     requires count { length tokens.now < 2 ^ 32 }
-    ensures { Tells Property (FindsExpression tokens.now start) HasLong (BeginsNoExpression tokens.now start) tokens.now start result }
+    ensures { Tells Property (FindsExpression tokens.now start) HasLong (BeginsNoExpression tokens.now start)
+        tokens.now start result }
 {
     match allow(alloc, TextKind::Property, tokens, start) {
         Ok(()) => parse_allowed(alloc, tokens, start),
@@ -53,7 +58,8 @@ fn parse_allowed(alloc: Global, tokens: &[Token], start: usize) -> Result<(Expr,
     requires within { start ≤ length tokens.now }
     requires count { length tokens.now < 2 ^ 32 }
     requires allowed { IsAllowed Property (kinds (drop start tokens.now)) }
-    ensures { Tells Property (FindsExpression tokens.now start) HasLong (BeginsNoExpression tokens.now start) tokens.now start result }
+    ensures { Tells Property (FindsExpression tokens.now start) HasLong (BeginsNoExpression tokens.now start)
+        tokens.now start result }
 {
     let asked = tokens.split_at(start).1;
     match parse_longest(alloc, Labels::Allowed, Precedence::Conditional, asked) {

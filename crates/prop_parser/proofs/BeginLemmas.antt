@@ -14,11 +14,11 @@ use Rattle.prism_reading.specs.Begins.{BeginsTerminal, BeginsBoth}
 use Rattle.prism_reading.proofs.DefiniteLemmas.{HasText, text_begins, nothing_begins, terminal_has}
 use Rattle.prism_reading.proofs.BothLemmas.{both_has}
 use Rattle.prism_reading.proofs.EndedLemmas.{ended_made}
-use Rattle.prism_reading.proofs.BegunLemmas.{BeginsExactly, terminal_begun, name_begun, both_begun, one_of_begun, made_begun}
+use Rattle.prism_reading.proofs.BegunLemmas.{BeginsExactly, terminal_begun, name_begun, both_begun, one_of_begun, made_begun, after_begun}
 use Rattle.prism_expression.specs.Begins.{Begins}
 use Rattle.prism_expression.proofs.BeginLemmas.{begins_prefix, prefix_begins}
 use Rattle.prop_parser.specs.Parts.{IsOne, one, cmp_of, strict_of, IsStateUntil, IsLast, IsTimed, IsPathUntil, IsBoundUntil}
-use Rattle.prop_parser.specs.Begins.{BeginsOne, BeginsWhole, BeginsAfter, BeginsStateUntil, BeginsLast, BeginsTime, BeginsTimed, BeginsUntil, BeginsPath, BeginsBound, BeginsProperty}
+use Rattle.prop_parser.specs.Begins.{BeginsOne, BeginsWhole, BeginsStateUntil, BeginsLast, BeginsTime, BeginsTimed, BeginsUntil, BeginsPath, BeginsBound, BeginsProperty}
 use Rattle.prop_parser.specs.Begins as begin
 use Rattle.prop_parser.proofs.OneLemmas.{state_has, bound_has}
 use Rattle.prop_parser.proofs.LineLemmas.{whole_of, last_made, time_made, path_made, property_made, UntilParts, strict_has, cmp_has, whole_has, last_has, timed_has, path_has}
@@ -58,10 +58,6 @@ whole_begun : BeginsExactly (IsOne whole_of) BeginsWhole
 whole_begun =
     let each = one_begun whole_of whole_has in
     record { to = λ p begins. whole_to p (each.to p begins); back = λ p begins. each.back p (whole_back p begins) }
-
--- a token, and then the rest
-after_begun : {Y : Type 0} {B : List Kind → Y → Type 0} {Starts : List Kind → Type 0} (t : Kind) → HasText B → BeginsExactly B Starts → BeginsExactly (Both (IsTerminal t) B) (BeginsAfter t Starts)
-after_begun t has rest = both_begun has (terminal_begun t) rest
 
 -- an expression of a level up to the token that ends it
 ended_begun : (level : Precedence) (stop : Kind) → BeginsExactly (Ended (Derives Allowed level) stop) (BeginsBoth (Derives Allowed level) (Begins Allowed level) (BeginsTerminal stop))

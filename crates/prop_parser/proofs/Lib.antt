@@ -1,4 +1,3 @@
-pub mod AnswerLemmas
 pub mod OneLemmas
 pub mod LineLemmas
 pub mod DefiniteLineLemmas

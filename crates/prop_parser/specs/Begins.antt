@@ -9,7 +9,7 @@ use Rattle.prism_syntax.specs.declared.tokens.Kind.TheVariants as k
 use Rattle.prism_syntax.specs.Expressions.{Derives}
 use Rattle.prism_syntax.specs.Properties.{IsTime}
 use Rattle.prism_reading.specs.Sequences.{IsTerminal}
-use Rattle.prism_reading.specs.Begins.{BeginsTerminal, BeginsName, BeginsBoth, BeginsOneOf}
+use Rattle.prism_reading.specs.Begins.{BeginsTerminal, BeginsName, BeginsBoth, BeginsAfter, BeginsOneOf}
 use Rattle.prism_expression.specs.Begins.{Begins}
 use Rattle.prop_parser.specs.Parts.{IsOne, cmp_of, strict_of, IsStateUntil, IsBoundUntil}
 
@@ -22,10 +22,6 @@ pub data BeginsOne {X : Type 0} (tree_of : Kind → Option X) : List Kind → Ty
 pub data BeginsWhole : List Kind → Type 0 where
   nothing : BeginsWhole []
   whole : {value : Fraction} → BeginsWhole (k.Whole value ∷ [])
-
--- one token, and then what begins the rest
-abbrev pub BeginsAfter : Kind → (List Kind → Type 0) → List Kind → Type 0
-BeginsAfter token BeginsRest = BeginsBoth (IsTerminal token) (BeginsTerminal token) BeginsRest
 
 -- a state formula up to the token that ends it
 abbrev pub BeginsStateUntil : Kind → List Kind → Type 0

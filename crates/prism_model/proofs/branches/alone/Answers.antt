@@ -2,7 +2,7 @@ use Rattle.std.proofs.Common.{◌∷◌, [], ◌++◌, ◌∙◌, ◌≡◌, ap}
 use Rattle.prism_syntax.specs.declared.tokens.Kind.TheVariants as k
 use Rattle.std.proofs.Common.{None}
 use Rattle.prism_syntax.specs.declared.commands.Branch.{Branch}
-use Rattle.prism_model.proofs.AnswerLemmas.{passed}
+use Rattle.prism_reading.proofs.AnswerLemmas.{passed}
 use Rattle.prism_model.proofs.BranchLemmas.{alone_definite, alone_missing, branches_parts_definite}
 use Rattle.prism_model.proofs.DefiniteLineLemmas.{semicolon_update, update_definite}
 use Rattle.prism_model.proofs.LineLemmas.{branches_made}

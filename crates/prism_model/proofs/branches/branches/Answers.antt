@@ -1,5 +1,5 @@
 use Rattle.prism_syntax.specs.declared.tokens.Kind.TheVariants as k
-use Rattle.prism_model.proofs.AnswerLemmas.{passed}
+use Rattle.prism_reading.proofs.AnswerLemmas.{passed}
 use Rattle.prism_model.proofs.BranchLemmas.{branches_parts_definite, several_definite, several_missing}
 use Rattle.prism_model.proofs.DefiniteLineLemmas.{branches_divide, semicolon_branches}
 use Rattle.prism_model.proofs.LineLemmas.{branches_made}

@@ -1,5 +1,5 @@
 use Rattle.prism_syntax.specs.declared.tokens.Kind.TheVariants as k
-use Rattle.prism_model.proofs.AnswerLemmas.{passed}
+use Rattle.prism_reading.proofs.AnswerLemmas.{passed}
 use Rattle.prism_model.proofs.DefiniteLineLemmas.{action_parts_definite, both_closed}
 use Rattle.prism_model.proofs.StepLemmas.{here, no_token, past_name}
 use Rattle.prism_reading.proofs.BothLemmas.{both_found}

@@ -1,6 +1,6 @@
 use Rattle.std.proofs.Common.{refl}
 use Rattle.prism_syntax.specs.declared.tokens.Kind.TheVariants as k
-use Rattle.prism_model.proofs.AnswerLemmas.{passed}
+use Rattle.prism_reading.proofs.AnswerLemmas.{passed}
 use Rattle.prism_model.proofs.BranchLemmas.{branches_has}
 use Rattle.prism_model.proofs.DefiniteLineLemmas.{action_definite, action_has, after_token, both_closed}
 use Rattle.prism_model.proofs.ExpressionLemmas.{until_definite}

@@ -1,5 +1,5 @@
 use Rattle.std.proofs.Common.{◌∷◌, [], ◌++◌, ◌≡◌}
-use Rattle.prism_model.proofs.AnswerLemmas.{passed}
+use Rattle.prism_reading.proofs.AnswerLemmas.{passed}
 use Rattle.prism_model.proofs.ModuleLemmas.{command_starts, commands_repeat}
 use Rattle.prism_model.proofs.StepLemmas.{accepted}
 use Rattle.prism_reading.proofs.EachLemmas.{each_onward, next_missing, onward_ended, shorter}

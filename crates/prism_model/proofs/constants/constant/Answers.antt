@@ -1,5 +1,5 @@
 use Rattle.prism_syntax.specs.declared.tokens.Kind.TheVariants as k
-use Rattle.prism_model.proofs.AnswerLemmas.{passed}
+use Rattle.prism_reading.proofs.AnswerLemmas.{passed}
 use Rattle.prism_model.proofs.DefiniteLineLemmas.{const_parts_definite, const_rest_definite, optional_has, sorted_definite, sorted_has}
 use Rattle.prism_model.proofs.LineLemmas.{const_made}
 use Rattle.prism_model.proofs.StepLemmas.{here, later, past}

@@ -1,5 +1,5 @@
 use Rattle.prism_model.proofs.SortLemmas.{sort_first}
-use Rattle.prism_model.proofs.AnswerLemmas.{passed}
+use Rattle.prism_reading.proofs.AnswerLemmas.{passed}
 use Rattle.prism_model.proofs.DefiniteLineLemmas.{both_closed, sorted_parts_definite, word_definite}
 use Rattle.prism_model.proofs.StepLemmas.{here, later}
 use Rattle.prism_reading.proofs.BothLemmas.{both_found}

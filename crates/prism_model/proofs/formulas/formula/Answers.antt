@@ -1,5 +1,5 @@
 use Rattle.prism_syntax.specs.declared.tokens.Kind.TheVariants as k
-use Rattle.prism_model.proofs.AnswerLemmas.{passed}
+use Rattle.prism_reading.proofs.AnswerLemmas.{passed}
 use Rattle.prism_model.proofs.DefiniteLineLemmas.{after_token, both_closed, named_rest_definite, named_rest_has}
 use Rattle.prism_model.proofs.ExpressionLemmas.{until_has}
 use Rattle.prism_model.proofs.LineLemmas.{formula_made}

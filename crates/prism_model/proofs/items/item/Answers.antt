@@ -1,5 +1,5 @@
 use Rattle.prism_model.proofs.TokenLemmas.{first_of, starts_with}
-use Rattle.prism_model.proofs.AnswerLemmas.{passed}
+use Rattle.prism_reading.proofs.AnswerLemmas.{passed}
 use Rattle.prism_model.proofs.ItemLemmas.{const_items, formula_items, global_items, item_found, item_missing, label_items, module_items, no_item_at_end, no_word, rewards_items}
 use Rattle.prism_model.proofs.items.item.Goals as goal
 

@@ -1,5 +1,5 @@
 use Rattle.prism_model.proofs.ModelLemmas.{collected_begun, collected_more, collected_all, items_missing, some_left, none_left}
-use Rattle.prism_model.proofs.AnswerLemmas.{passed}
+use Rattle.prism_reading.proofs.AnswerLemmas.{passed}
 use Rattle.prism_model.proofs.ItemLemmas.{item_starts}
 use Rattle.prism_reading.proofs.EachLemmas.{shorter}
 use Rattle.prism_model.proofs.items.items.Goals as goal

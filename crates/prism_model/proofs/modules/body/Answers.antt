@@ -1,5 +1,5 @@
 use Rattle.prism_syntax.specs.declared.tokens.Kind.TheVariants as k
-use Rattle.prism_model.proofs.AnswerLemmas.{passed}
+use Rattle.prism_reading.proofs.AnswerLemmas.{passed}
 use Rattle.prism_model.proofs.ModuleLemmas.{body_parts_definite, commands_definite, commands_has, commands_lead, commands_repeat, end_leads, variables_repeat}
 use Rattle.prism_reading.proofs.BothLemmas.{both_found, first_missing, second_missing}
 use Rattle.prism_reading.proofs.DefiniteLemmas.{terminal_has}

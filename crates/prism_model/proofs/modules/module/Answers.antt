@@ -1,6 +1,6 @@
 use Rattle.std.proofs.Common.{refl}
 use Rattle.prism_syntax.specs.declared.tokens.Kind.TheVariants as k
-use Rattle.prism_model.proofs.AnswerLemmas.{passed}
+use Rattle.prism_reading.proofs.AnswerLemmas.{passed}
 use Rattle.prism_model.proofs.DefiniteLineLemmas.{after_token, both_closed, renaming_definite, renaming_has}
 use Rattle.prism_model.proofs.LineLemmas.{module_made}
 use Rattle.prism_model.proofs.ModuleLemmas.{body_has, body_starts, module_rest_definite, module_rest_has, no_body_equal}

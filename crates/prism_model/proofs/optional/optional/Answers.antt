@@ -1,6 +1,6 @@
 use Rattle.std.proofs.Common.{refl}
 use Rattle.prism_syntax.specs.declared.tokens.Kind.TheVariants as k
-use Rattle.prism_model.proofs.AnswerLemmas.{passed}
+use Rattle.prism_reading.proofs.AnswerLemmas.{passed}
 use Rattle.prism_model.proofs.DefiniteLineLemmas.{after_token, optional_parts_definite}
 use Rattle.prism_model.proofs.ExpressionLemmas.{until_definite, until_has}
 use Rattle.prism_model.proofs.LineLemmas.{optional_made}

@@ -1,6 +1,6 @@
 use Rattle.prism_model.proofs.TokenLemmas.{first_of, starts_with}
 use Rattle.prism_model.proofs.ModelLemmas.{no_model, no_model_at_end, dtmc_missing, dtmc_found, probabilistic_missing, probabilistic_found}
-use Rattle.prism_model.proofs.AnswerLemmas.{passed}
+use Rattle.prism_reading.proofs.AnswerLemmas.{passed}
 use Rattle.prism_model.proofs.parsing.parse.Goals as goal
 
 pub returns-in-empty : goal.returns-in-empty

@@ -1,5 +1,5 @@
 use Rattle.prism_syntax.specs.declared.tokens.Kind.TheVariants as k
-use Rattle.prism_model.proofs.AnswerLemmas.{passed}
+use Rattle.prism_reading.proofs.AnswerLemmas.{passed}
 use Rattle.prism_model.proofs.DefiniteLineLemmas.{after_token, both_closed}
 use Rattle.prism_model.proofs.LineLemmas.{pair_made}
 use Rattle.prism_model.proofs.StepLemmas.{here, past, past_name}

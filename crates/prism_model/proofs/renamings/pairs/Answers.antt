@@ -1,5 +1,5 @@
 use Rattle.std.proofs.Common.{◌∷◌, [], ◌++◌, ◌≡◌}
-use Rattle.prism_model.proofs.AnswerLemmas.{passed}
+use Rattle.prism_reading.proofs.AnswerLemmas.{passed}
 use Rattle.prism_model.proofs.DefiniteLineLemmas.{pair_has, pairs_divide}
 use Rattle.prism_reading.proofs.SeparatedLemmas.{further_shorter, last_found, separated_onward, text_missing}
 use Rattle.prism_model.proofs.renamings.pairs.Goals as goal

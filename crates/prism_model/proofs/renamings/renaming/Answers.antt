@@ -1,5 +1,5 @@
 use Rattle.prism_syntax.specs.declared.tokens.Kind.TheVariants as k
-use Rattle.prism_model.proofs.AnswerLemmas.{passed}
+use Rattle.prism_reading.proofs.AnswerLemmas.{passed}
 use Rattle.prism_model.proofs.DefiniteLineLemmas.{after_token, both_closed, bracket_pairs, pairs_divide, renaming_end_definite, renaming_end_has, renaming_pairs_definite, renaming_pairs_has}
 use Rattle.prism_model.proofs.StepLemmas.{here, past, past_name}
 use Rattle.prism_reading.proofs.BothLemmas.{both_found, both_has, first_missing, second_missing}

@@ -1,6 +1,6 @@
 use Rattle.prism_syntax.specs.declared.tokens.Kind.TheVariants as k
 use Rattle.prism_model.proofs.RewardsLemmas.{ends_definite, ends_has}
-use Rattle.prism_model.proofs.AnswerLemmas.{passed}
+use Rattle.prism_reading.proofs.AnswerLemmas.{passed}
 use Rattle.prism_model.proofs.DefiniteLineLemmas.{after_token}
 use Rattle.prism_model.proofs.LineLemmas.{rewards_made}
 use Rattle.prism_model.proofs.StepLemmas.{here, past}

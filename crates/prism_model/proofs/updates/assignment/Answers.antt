@@ -1,5 +1,5 @@
 use Rattle.prism_syntax.specs.declared.tokens.Kind.TheVariants as k
-use Rattle.prism_model.proofs.AnswerLemmas.{passed}
+use Rattle.prism_reading.proofs.AnswerLemmas.{passed}
 use Rattle.prism_model.proofs.DefiniteLineLemmas.{after_token, assign_end_definite, assign_end_has, both_closed}
 use Rattle.prism_model.proofs.ExpressionLemmas.{until_has}
 use Rattle.prism_model.proofs.LineLemmas.{assign_made}

@@ -1,5 +1,5 @@
 use Rattle.prism_model.proofs.UpdateLemmas.{true_found, joined_true}
-use Rattle.prism_model.proofs.AnswerLemmas.{passed}
+use Rattle.prism_reading.proofs.AnswerLemmas.{passed}
 use Rattle.prism_model.proofs.DefiniteLineLemmas.{update_parts_definite}
 use Rattle.prism_model.proofs.LineLemmas.{update_made}
 use Rattle.prism_model.proofs.StepLemmas.{no_token}

@@ -1,5 +1,5 @@
 use Rattle.prism_syntax.specs.declared.tokens.Kind.TheVariants as k
-use Rattle.prism_model.proofs.AnswerLemmas.{passed}
+use Rattle.prism_reading.proofs.AnswerLemmas.{passed}
 use Rattle.prism_model.proofs.DefiniteLineLemmas.{after_token, variable_definite, variable_has}
 use Rattle.prism_model.proofs.LineLemmas.{global_made}
 use Rattle.prism_model.proofs.StepLemmas.{here, past}

@@ -1,6 +1,6 @@
 use Rattle.std.proofs.Common.{◌≡◌, true, sym, ◌∙◌}
 use Rattle.std.proofs.lemmas.Bool.{eqb-true, eq-eqb}
-use Rattle.prop_parser.proofs.AnswerLemmas.{passed}
+use Rattle.prism_reading.proofs.AnswerLemmas.{passed}
 use Rattle.prop_parser.proofs.WholeLemmas.{whole_text, whole_missing, none_whole}
 use Rattle.prop_parser.proofs.grammar.parse.Goals as goal
 

@@ -3,7 +3,7 @@ use Rattle.prism_reading.proofs.BothLemmas.{both_found, both_has, first_missing,
 use Rattle.prism_reading.proofs.DefiniteLemmas.{anything_leads, terminal_definite}
 use Rattle.prism_reading.proofs.MadeLemmas.{made_found, made_missing}
 use Rattle.prop_parser.specs.Parts.{cmp_of}
-use Rattle.prop_parser.proofs.AnswerLemmas.{passed}
+use Rattle.prism_reading.proofs.AnswerLemmas.{passed}
 use Rattle.prop_parser.proofs.OneLemmas.{one_definite, bound_has}
 use Rattle.prop_parser.proofs.LineLemmas.{property_made, cmp_has, path_has}
 use Rattle.prop_parser.proofs.DefiniteLineLemmas.{bound_definite, from_bound_definite, from_cmp_definite, property_parts_definite}

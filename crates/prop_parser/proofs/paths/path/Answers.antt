@@ -4,7 +4,7 @@ use Rattle.prism_syntax.specs.declared.tokens.Kind.TheVariants as k
 use Rattle.prism_syntax.specs.declared.precedence.Precedence.TheVariants as rule
 use Rattle.prism_reading.proofs.BothLemmas.{first_missing, second_missing}
 use Rattle.prism_reading.proofs.DefiniteLemmas.{anything_leads}
-use Rattle.prop_parser.proofs.AnswerLemmas.{passed}
+use Rattle.prism_reading.proofs.AnswerLemmas.{passed}
 use Rattle.prop_parser.proofs.OneLemmas.{until_definite}
 use Rattle.prop_parser.proofs.LineLemmas.{timed_has}
 use Rattle.prop_parser.proofs.DefiniteLineLemmas.{next_found, next_missing, finally_found, finally_missing, globally_found, globally_missing, until_found, until_missing}

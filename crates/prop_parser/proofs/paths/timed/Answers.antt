@@ -1,7 +1,7 @@
 use Rattle.prism_syntax.specs.declared.tokens.Kind.TheVariants as k
 use Rattle.prism_reading.proofs.BothLemmas.{both_found, first_missing, second_missing}
 use Rattle.prism_reading.proofs.DefiniteLemmas.{anything_leads}
-use Rattle.prop_parser.proofs.AnswerLemmas.{passed}
+use Rattle.prism_reading.proofs.AnswerLemmas.{passed}
 use Rattle.prop_parser.proofs.OneLemmas.{state_has}
 use Rattle.prop_parser.proofs.DefiniteLineLemmas.{time_definite, timed_definite}
 use Rattle.prop_parser.proofs.paths.timed.Goals as goal

@@ -6,7 +6,7 @@ use Rattle.prism_reading.specs.Reading.{Anything, Parses}
 use Rattle.prism_reading.proofs.DefiniteLemmas.{found}
 use Rattle.prism_reading.proofs.TerminalLemmas.{no_first}
 use Rattle.prop_parser.specs.Parts.{IsLast, whole, name}
-use Rattle.prop_parser.proofs.AnswerLemmas.{passed}
+use Rattle.prism_reading.proofs.AnswerLemmas.{passed}
 use Rattle.prop_parser.proofs.DefiniteLineLemmas.{last_definite, last_missing, paren_found, paren_missing, no_last}
 use Rattle.prop_parser.proofs.times.last_step.Goals as goal
 

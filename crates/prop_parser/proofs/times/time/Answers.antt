@@ -3,7 +3,7 @@ use Rattle.prism_reading.proofs.DefiniteLemmas.{anything_leads}
 use Rattle.prism_reading.proofs.MadeLemmas.{made_found, made_missing}
 use Rattle.std.proofs.Common.{[]}
 use Rattle.prop_parser.specs.Parts.{strict_of}
-use Rattle.prop_parser.proofs.AnswerLemmas.{passed}
+use Rattle.prism_reading.proofs.AnswerLemmas.{passed}
 use Rattle.prop_parser.proofs.OneLemmas.{one_definite}
 use Rattle.prop_parser.proofs.LineLemmas.{time_made, last_has}
 use Rattle.prop_parser.proofs.DefiniteLineLemmas.{time_parts_definite}
