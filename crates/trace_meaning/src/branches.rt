@@ -25,7 +25,7 @@ pub fn arms_of(chain: &Chain, command: u32) -> &[Arm]
 }
 
 /// The branch that is taken of those with these weights: of several by a draw.
-fn drawn_branch(weights: &[Frac], den: u64, draws: &mut Draws) -> usize
+pub fn drawn_branch(weights: &[Frac], den: u64, draws: &mut Draws) -> usize
     requires weights { All IsWeight weights.now }
     requires common { den ≡ denominator_of weights.now }
     requires some { 0 < den }

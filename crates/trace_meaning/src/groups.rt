@@ -17,7 +17,7 @@ pub struct Group {
 }
 
 /// Whether the command of a number has no action.
-fn has_no_action(acts: &[Act], number: u32) -> bool
+pub fn has_no_action(acts: &[Act], number: u32) -> bool
     ensures { result ≡ command_is is_unlabelled acts.now number }
 {
     match acts.get(number as usize) {
@@ -59,7 +59,7 @@ fn part(
 }
 
 /// The enabled commands with an action, by the modules that take part.
-fn parts(
+pub fn parts(
     alloc: Global,
     acts: &[Act],
     enabled: &[u32],

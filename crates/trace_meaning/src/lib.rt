@@ -15,11 +15,14 @@ mod step;
 mod values;
 mod weights;
 
+pub use branches::drawn_branch;
 pub use chain_model::{Choice, Taken};
 pub use deadlock::eval;
 pub use fault::StepFault;
+pub use groups::{has_no_action, parts};
 pub use listing::choices;
-pub use step::plain_step;
+pub use step::{drawn_number, plain_step};
+pub use weights::{add_up, as_weight, denominator, numerator};
 
 #[cfg(test)]
 mod depth_tests;

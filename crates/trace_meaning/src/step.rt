@@ -19,7 +19,7 @@ use std::alloc::{AllocError, Global};
 use trace_streams::{Draws, pick};
 
 /// The number of the choice that is taken of so many: of several by a draw.
-fn drawn_number(count: u64, draws: &mut Draws) -> u64
+pub fn drawn_number(count: u64, draws: &mut Draws) -> u64
     requires some { 0 < count }
     requires few { count ≤ 2 ^ 48 }
     requires place { draws.old.place < 2 ^ 62 }

@@ -14,7 +14,7 @@ use sqlite_items::Items;
 use std::alloc::Global;
 
 /// A value as a weight of a command, which lies from 0 to 1.
-fn as_weight(command: u32, value: Value) -> Result<Frac, TraceFault>
+pub fn as_weight(command: u32, value: Value) -> Result<Frac, TraceFault>
     ensures value { result ≡ as_weight command value }
     ensures weight { IfOk result IsWeight }
 {
@@ -106,7 +106,7 @@ pub fn denominator(weights: &[Frac]) -> Option<u64>
 }
 
 /// The numerator of a weight over a denominator.
-fn numerator(weight: Frac, den: u64) -> u64
+pub fn numerator(weight: Frac, den: u64) -> u64
     requires weight { IsWeight weight }
     requires few { den ≤ 2 ^ 48 }
     ensures value { result ≡ unsigned_abs weight.num * (den / weight.den) }

@@ -1,0 +1,12 @@
+pub mod FilterLemmas
+pub mod CountLemmas
+pub mod DecodeLemmas
+pub mod PlaceLemmas
+pub mod PartitionLemmas
+pub mod SideLemmas
+pub mod WeightLemmas
+pub mod CommandLemmas
+pub mod TakingLemmas
+pub mod MoveLemmas
+pub mod GuardLemmas
+pub mod FixedLemmas

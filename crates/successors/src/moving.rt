@@ -1,0 +1,243 @@
+//! A move from a state: a choice is drawn, and then the branches of its commands, whose assignments are made.
+
+ghost use Rattle.std.specs.Prelude.{◌≡◌, ◌+◌, ◌<◌, ◌≤◌, ◌^◌, ◌↔◌, [], All, OnErr, Ok, length, take};
+ghost use Rattle.trace_streams.specs.Draws.{draw_at};
+ghost use Rattle.chain_model.specs.States.{IsState};
+ghost use Rattle.chain_model.specs.Choices.{choices_of};
+ghost use Rattle.chain_model.specs.Step.{draws_for};
+ghost use Rattle.guard_code.specs.Tests.{IsSmall};
+ghost use Rattle.successors.specs.Enabled.{is_enabled, AreGuards};
+ghost use Rattle.successors.specs.Partition.{choice_lists};
+ghost use Rattle.successors.specs.Commands.{AreCommands};
+ghost use Rattle.successors.specs.Steppers.{IsPlan, IsRoom};
+ghost use Rattle.successors.specs.Moves.{next_of, came, commands_taken, after_commands};
+
+use crate::commands::Command;
+use crate::counting::count_choices;
+use crate::decoding::write_choice;
+use crate::plan::{Plan, Room};
+use crate::taking::{assign_all, write_branches};
+use chain_model::{Chain, TraceFault};
+use smc_num::Frac;
+use trace_meaning::drawn_number;
+use trace_streams::Draws;
+
+/// Whether a choice was taken. A state without one stays as it is for ever.
+#[derive(Clone, Copy, Debug, PartialEq, Eq)]
+pub enum Moved {
+    Taken,
+    Stayed,
+}
+
+/// Draws a choice and writes its commands, and says how many they are.
+fn choose(
+    plan: &Plan,
+    chain: &Chain,
+    state: &[i64],
+    enabled: &[u8],
+    lane: u32,
+    count: u64,
+    chosen: &mut [u32],
+    draws: &mut Draws,
+) -> usize
+    requires plan { IsPlan chain.now plan.now }
+    requires guards { AreGuards chain.now state.now lane enabled.now }
+    requires lane { lane < 8 }
+    requires count { count
+        ≡ length (choice_lists (is_enabled lane enabled.now) plan.now.partition.singles plan.now.partition.actions) }
+    requires some { 0 < count }
+    requires few { count ≤ 2 ^ 48 }
+    requires room { 1 ≤ length chosen.old }
+    requires wide { All (λ lists. length lists ≤ length chosen.old) plan.now.partition.actions }
+    requires place { draws.old.place < 2 ^ 62 }
+    ensures value { commands_taken chain.now (draw_at draws.old.seed draws.old.trace) state.now draws.old.place
+        ≡ Ok (take result chosen.new, draws.new.place) }
+    ensures within { result ≤ length chosen.old }
+    ensures few { result ≤ 64 }
+    ensures moves { draws.new ≡ record draws.old { place = draws.old.place + draws_for count } }
+{
+    let number = drawn_number(count, draws);
+    write_choice(
+        enabled,
+        lane,
+        plan.partition.singles.as_slice(),
+        plan.partition.actions.as_slice(),
+        number,
+        chosen,
+    )
+}
+
+/// Takes the branches of commands, by the draws from where they stand, and makes their assignments.
+fn take_commands(
+    commands: &[Command],
+    chain: &Chain,
+    chosen: &[u32],
+    branches: &mut [usize],
+    weights: &mut [Frac],
+    next: &mut [i64],
+    state: &mut [i64],
+    draws: &mut Draws,
+) -> Result<(), TraceFault>
+    requires commands { AreCommands chain.now commands.now }
+    requires small { IsSmall state.old }
+    requires branches { length chosen.now ≤ length branches.old }
+    requires weights { 64 ≤ length weights.old }
+    requires next { length next.old ≡ length state.old }
+    requires place { draws.old.place + length chosen.now ≤ 2 ^ 62 }
+    ensures step { came result state.new draws.new.place
+        ≡ after_commands chain.now (draw_at draws.old.seed draws.old.trace) state.old (chosen.now, draws.old.place) }
+    ensures stays { OnErr result (state.new ≡ state.old) }
+    ensures forward { draws.old.place ≤ draws.new.place }
+    ensures stream { draws.new ≡ record draws.old { place = draws.new.place } }
+{
+    match write_branches(chain, commands, chosen, state, branches, weights, draws) {
+        Ok(()) => {}
+        Err(fault) => return Err(fault),
+    }
+    next.copy_from_slice(state);
+    match assign_all(
+        chain,
+        commands,
+        chosen,
+        &branches[..chosen.len()],
+        state,
+        next,
+    ) {
+        Ok(()) => {}
+        Err(fault) => return Err(fault),
+    }
+    state.copy_from_slice(next);
+    Ok(())
+}
+
+/// Draws a choice, and takes it.
+fn take_choice(
+    plan: &Plan,
+    chain: &Chain,
+    enabled: &[u8],
+    lane: u32,
+    count: u64,
+    room: &mut Room,
+    state: &mut [i64],
+    draws: &mut Draws,
+) -> Result<(), TraceFault>
+    requires plan { IsPlan chain.now plan.now }
+    requires room { IsRoom chain.now plan.now room.old }
+    requires guards { AreGuards chain.now state.old lane enabled.now }
+    requires lane { lane < 8 }
+    requires state { IsState chain.now state.old }
+    requires count { count
+        ≡ length (choice_lists (is_enabled lane enabled.now) plan.now.partition.singles plan.now.partition.actions) }
+    requires some { 0 < count }
+    requires few { count ≤ 2 ^ 48 }
+    requires place { draws.old.place + 65 ≤ 2 ^ 62 }
+    ensures step { came result state.new draws.new.place
+        ≡ next_of chain.now (draw_at draws.old.seed draws.old.trace)
+        (record { state = state.old; position = draws.old.place }) }
+    ensures stays { OnErr result (state.new ≡ state.old) }
+    ensures keeps { IsState chain.now state.new }
+    ensures forward { draws.old.place ≤ draws.new.place }
+    ensures stream { draws.new ≡ record draws.old { place = draws.new.place } }
+    ensures room { IsRoom chain.now plan.now room.new }
+{
+    let size = choose(
+        plan,
+        chain,
+        state,
+        enabled,
+        lane,
+        count,
+        &mut room.chosen,
+        draws,
+    );
+    take_commands(
+        plan.commands.as_slice(),
+        chain,
+        &room.chosen[..size],
+        &mut room.branches,
+        &mut room.weights,
+        &mut room.next,
+        state,
+        draws,
+    )
+}
+
+/// A move by the bits of a lane, which say which commands are enabled. After a fault the draws may stand further on.
+fn try_move(
+    plan: &Plan,
+    chain: &Chain,
+    enabled: &[u8],
+    lane: u32,
+    room: &mut Room,
+    state: &mut [i64],
+    draws: &mut Draws,
+) -> Result<Moved, TraceFault>
+    requires plan { IsPlan chain.now plan.now }
+    requires room { IsRoom chain.now plan.now room.old }
+    requires guards { AreGuards chain.now state.old lane enabled.now }
+    requires lane { lane < 8 }
+    requires state { IsState chain.now state.old }
+    requires place { draws.old.place + 65 ≤ 2 ^ 62 }
+    ensures step { came result state.new draws.new.place
+        ≡ next_of chain.now (draw_at draws.old.seed draws.old.trace)
+        (record { state = state.old; position = draws.old.place }) }
+    ensures stayed { (result ≡ Ok Moved.Stayed) ↔ (choices_of chain.now state.old ≡ Ok []) }
+    ensures stays { OnErr result (state.new ≡ state.old) }
+    ensures keeps { IsState chain.now state.new }
+    ensures forward { draws.old.place ≤ draws.new.place }
+    ensures stream { draws.new ≡ record draws.old { place = draws.new.place } }
+    ensures room { IsRoom chain.now plan.now room.new }
+{
+    let count = count_choices(
+        enabled,
+        lane,
+        plan.partition.singles.as_slice(),
+        plan.partition.actions.as_slice(),
+    );
+    if count > 1 << 48 {
+        return Err(TraceFault::Choices);
+    }
+    if count == 0 {
+        return Ok(Moved::Stayed);
+    }
+    match take_choice(plan, chain, enabled, lane, count, room, state, draws) {
+        Ok(()) => Ok(Moved::Taken),
+        Err(fault) => Err(fault),
+    }
+}
+
+/// A move by the bits of a lane, which say which commands are enabled. After a fault the state and the draws are as
+/// they were.
+pub fn make_move(
+    plan: &Plan,
+    chain: &Chain,
+    enabled: &[u8],
+    lane: u32,
+    room: &mut Room,
+    state: &mut [i64],
+    draws: &mut Draws,
+) -> Result<Moved, TraceFault>
+    requires plan { IsPlan chain.now plan.now }
+    requires room { IsRoom chain.now plan.now room.old }
+    requires guards { AreGuards chain.now state.old lane enabled.now }
+    requires lane { lane < 8 }
+    requires state { IsState chain.now state.old }
+    requires place { draws.old.place + 65 ≤ 2 ^ 62 }
+    ensures step { came result state.new draws.new.place
+        ≡ next_of chain.now (draw_at draws.old.seed draws.old.trace)
+        (record { state = state.old; position = draws.old.place }) }
+    ensures stayed { (result ≡ Ok Moved.Stayed) ↔ (choices_of chain.now state.old ≡ Ok []) }
+    ensures stays { OnErr result ((state.new ≡ state.old) × (draws.new ≡ draws.old)) }
+    ensures keeps { IsState chain.now state.new }
+    ensures stream { draws.new ≡ record draws.old { place = draws.new.place } }
+    ensures room { IsRoom chain.now plan.now room.new }
+{
+    let start = draws.place();
+    match try_move(plan, chain, enabled, lane, room, state, draws) {
+        Ok(moved) => Ok(moved),
+        Err(fault) => {
+            draws.back_to(start);
+            Err(fault)
+        }
+    }
+}
