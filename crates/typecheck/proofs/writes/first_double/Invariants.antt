@@ -1,0 +1,10 @@
+use Rattle.std.proofs.Common.{◌≡◌, take, map, bytes_eq}
+use Rattle.std.specs.Prelude.{None, Some, if◌then◌else◌}
+use Rattle.indexmap.specs.IndexMap.{get}
+use Rattle.prism_names.specs.First.{first_some, first_repeated}
+use Rattle.typecheck.specs.Writes.{is_foreign, is_global, assigned_names, double_write, foreign_write, global_write}
+use Rattle.typecheck.proofs.writes.first_double.Given as goal
+
+-- nothing is told of those so far
+abbrev pub invariant-loop-command : goal.invariant-loop-command
+invariant-loop-command l = first_some (double_write) (map (λ c. c.1.now) (take l.command-index l.commands)) ≡ None

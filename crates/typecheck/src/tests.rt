@@ -1,0 +1,4 @@
+mod expressions;
+mod largest;
+mod models;
+mod refused;
