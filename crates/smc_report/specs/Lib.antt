@@ -1,0 +1,5 @@
+pub mod Texts
+pub mod Causes
+pub mod Help
+pub mod Refusals
+pub mod Report

@@ -1,0 +1,6 @@
+use super::*;
+
+mod causes;
+mod refusals;
+mod reports;
+mod settings;
