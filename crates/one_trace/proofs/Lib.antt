@@ -1,0 +1,3 @@
+mod StandingLemmas
+mod UnderwayLemmas
+mod StayingLemmas

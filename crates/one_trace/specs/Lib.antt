@@ -1,0 +1,3 @@
+pub mod Work
+pub mod Underway
+pub mod Standing
