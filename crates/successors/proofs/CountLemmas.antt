@@ -1,7 +1,7 @@
 -- How many choices actions have, list by list and action by action.
-use Rattle.std.proofs.Common.{◌≡◌, ℕ, ◌+◌, ◌*◌, ◌<◌, ◌≤◌, ◌^◌, List, ◌∷◌, length, length-append, get_or, drop, map, min, Bool, sym, ap, ◌∙◌, arith}
-use Rattle.std.specs.Prelude.{filter, flat_map}
-use Rattle.std.proofs.lemmas.List.{drop-map, get_or-map, length-map, at_drop_more, drop_all}
+use Rattle.std.proofs.Common.{◌≡◌, ℕ, ◌+◌, ◌*◌, ◌<◌, ◌≤◌, ◌^◌, List, length, get_or, drop, map, min, Bool, sym, ap, ◌∙◌, arith}
+use Rattle.std.specs.Prelude.{filter}
+use Rattle.std.proofs.lemmas.List.{drop-map, get_or-map, length-map, drop_all}
 use Rattle.trace_meaning.proofs.CombinationLemmas.{product_next}
 use Rattle.chain_model.specs.Choices.{combinations}
 use Rattle.successors.specs.Partition.{joint_lists}
@@ -29,15 +29,3 @@ pub joint_all : (p : ℕ → Bool) (lists : List (List ℕ)) (i product whole : 
 joint_all p lists i product whole past small so =
     let none = ap (λ ls. min (product * length (joint_lists p ls)) (2 ^ 48 + 1)) (drop_all i lists past) in
     omega (arith, none, so, small)
-
--- one action further
-pub actions_next : (p : ℕ → Bool) (actions : List (List (List ℕ))) (i total many next whole : ℕ) (lists : List (List ℕ)) → i < length actions → lists ≡ get_or actions i lists
-    → many ≡ min (length (joint_lists p lists)) (2 ^ 48 + 1) → next ≡ min (total + many) (2 ^ 48 + 1)
-    → min (total + length (flat_map (joint_lists p) (drop i actions))) (2 ^ 48 + 1) ≡ whole
-    → min (next + length (flat_map (joint_lists p) (drop (i + 1) actions))) (2 ^ 48 + 1) ≡ whole
-actions_next p actions i total many next whole lists lt is counts nexts so =
-    let size : length (flat_map (joint_lists p) (drop i actions)) ≡ length (joint_lists p lists) + length (flat_map (joint_lists p) (drop (i + 1) actions)) =
-    at_drop_more (λ ls. length (flat_map (joint_lists p) ls)) actions i lists lt
-    ∙ ap (λ ls. length (flat_map (joint_lists p) (ls ∷ drop (i + 1) actions))) (sym is)
-    ∙ length-append (joint_lists p lists) (flat_map (joint_lists p) (drop (i + 1) actions)) in
-    omega (arith, size, counts, nexts, so)

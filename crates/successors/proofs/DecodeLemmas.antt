@@ -2,7 +2,7 @@
 use Rattle.std.proofs.Common.{◌≡◌, ℕ, zero, suc, ◌+◌, ◌*◌, ◌/◌, ◌%◌, ◌<◌, ◌≤◌, List, [], ◌∷◌, length, get_or, set, take, drop, map, Bool, Some, refl, sym, ap, ◌∙◌, subst, arith}
 use Rattle.std.specs.Prelude.{filter, slice_get, option_map}
 use Rattle.std.proofs.Math.Nat.{div-add-mod}
-use Rattle.std.proofs.lemmas.List.{length-map, length-take, length-set, at_drop_more, drop_all}
+use Rattle.std.proofs.lemmas.List.{length-map, length-set, at_drop_more}
 use Rattle.std.proofs.lemmas.Option.{get_or_from_slice_get}
 use Rattle.chain_model.specs.Choices.{combinations}
 use Rattle.trace_meaning.proofs.CombinationLemmas.{many, digit}
@@ -18,22 +18,6 @@ pub record Decoded (p : ℕ → Bool) (lists : List (List ℕ)) (number place le
   pub below : rest < length (joint_lists p (drop place lists))
   pub whole : number ≡ left * length (joint_lists p (drop place lists)) + rest
   pub found : slice_get (joint_lists p (drop place lists)) rest ≡ Some (drop place (take (length lists) chosen))
-
--- all digits are left
-pub decoded_none : (p : ℕ → Bool) (lists : List (List ℕ)) (number : ℕ) (chosen : List ℕ) → length lists ≤ length chosen
-    → Decoded p lists number (length lists) number chosen
-decoded_none p lists number chosen long =
-    let none : drop (length lists) lists ≡ [] = drop_all (length lists) lists (omega arith) in
-    let one : length (joint_lists p (drop (length lists) lists)) ≡ 1 = ap (λ ls. length (joint_lists p ls)) none in
-    let empty : drop (length lists) (take (length lists) chosen) ≡ [] = drop_all (length lists) (take (length lists) chosen) (omega (arith, length-take (length lists) chosen)) in
-    record {
-      within = omega arith;
-      long = long;
-      rest = 0;
-      below = omega (arith, one);
-      whole = sym (ap (λ n. number * n + 0) one ∙ omega arith);
-      found = ap (λ ls. slice_get (joint_lists p ls) 0) none ∙ ap Some (sym empty);
-    }
 
 -- the lists from a place on are the list there and the further ones
 record Cut (p : ℕ → Bool) (lists : List (List ℕ)) (place : ℕ) (list : List ℕ) : Type 0 where

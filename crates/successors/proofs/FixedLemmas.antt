@@ -1,5 +1,5 @@
 -- Weights that are the same in every state: thresholds of draws.
-use Rattle.std.proofs.Common.{◌≡◌, ◌==◌, ℕ, suc, ◌+◌, ◌*◌, ◌/◌, ◌<◌, ◌≤◌, ◌^◌, ◌↔◌, List, [], ◌∷◌, ◌++◌, length, get_or, take, drop, map, true, refl, sym, ap, ◌∙◌, inl, inr, arith, nat_le, append_assoc, append-nil, Ok, nat_lt}
+use Rattle.std.proofs.Common.{◌≡◌, ◌==◌, ℕ, suc, ◌+◌, ◌*◌, ◌/◌, ◌<◌, ◌≤◌, ◌^◌, ◌↔◌, List, [], ◌∷◌, ◌++◌, length, get_or, take, drop, map, true, refl, sym, ap, ◌∙◌, inl, inr, arith, nat_le, append-nil, Ok, nat_lt}
 use Rattle.std.specs.Prelude.{sum, unsigned_abs, if◌then◌else◌}
 use Rattle.std.proofs.Math.Nat.{div-eq_of_lt}
 use Rattle.std.proofs.lemmas.Nat.{div_below}
@@ -77,20 +77,6 @@ marked_at weights den thresholds through i n weight lt is counts so =
     ∙ ap (λ (x : Fraction). thresholds ++ map (λ s. first_draw s den) (running_sums through (numerators_over den (x ∷ drop (i + 1) weights)))) is
     ∙ sym (at_drop_more (λ (ws : List Fraction). thresholds ++ map (λ s. first_draw s den) (running_sums through (numerators_over den ws))) weights i weight lt)
     ∙ so.same
-
--- one weight further
-pub marked_next : (weights : List Fraction) (den : ℕ) (thresholds new : List ℕ) (through next i n threshold : ℕ) (weight : Fraction) → i < length weights → weight ≡ get_or weights i weight
-    → n ≡ unsigned_abs weight.num * (den / weight.den) → Marked weights den thresholds through i → next ≡ through + n → next < den → threshold ≡ first_draw next den
-    → new ≡ thresholds ++ (threshold ∷ []) → Marked weights den new next (i + 1)
-marked_next weights den thresholds new through next i n threshold weight lt is counts so adds less first more = record {
-  same =
-      ap (λ ts. ts ++ map (λ s. first_draw s den) (running_sums next (numerators_over den (drop (i + 1) weights)))) more
-      ∙ append_assoc thresholds (threshold ∷ []) (map (λ s. first_draw s den) (running_sums next (numerators_over den (drop (i + 1) weights))))
-      ∙ ap (λ t. thresholds ++ (t ∷ map (λ s. first_draw s den) (running_sums next (numerators_over den (drop (i + 1) weights))))) first
-      ∙ ap (λ k. thresholds ++ (first_draw k den ∷ map (λ s. first_draw s den) (running_sums k (numerators_over den (drop (i + 1) weights))))) adds
-      ∙ marked_at weights den thresholds through i n weight lt is counts so;
-  few = less;
-}
 
 -- a product is below another where a factor is
 products : (a b c : ℕ) → a < b → 0 < c → a * c < b * c

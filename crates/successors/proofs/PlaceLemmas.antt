@@ -1,7 +1,7 @@
 -- Where an item stands in lists that are made of the items of another, one after another.
 use Rattle.std.proofs.Common.{◌≡◌, ℕ, ◌+◌, ◌-◌, ◌<◌, ◌≤◌, ◌^◌, List, [], ◌∷◌, ◌++◌, length, get_or, set, take, drop, map, min, Bool, Option, Some, refl, sym, ap, ◌∙◌, arith, length-append}
 use Rattle.std.specs.Prelude.{filter, flat_map, option_map, slice_get}
-use Rattle.std.proofs.lemmas.List.{at_drop_more, drop_all, length-map}
+use Rattle.std.proofs.lemmas.List.{at_drop_more, length-map}
 use Rattle.trace_meaning.proofs.CombinationLemmas.{get_front, get_back, get_mapped}
 use Rattle.successors.specs.Partition.{joint_lists, choice_lists}
 
@@ -21,11 +21,6 @@ cut_at f xs i x lt is =
     let cut = at_drop_more (flat_map f) xs i x lt ∙ ap (λ y. flat_map f (y ∷ drop (i + 1) xs)) (sym is) in
     record { is = cut; size = ap length cut ∙ length-append (f x) (flat_map f (drop (i + 1) xs)) }
 
--- it is one of the item's list
-pub placed_fits : {A B : Type 0} (f : A → List B) (xs : List A) (i left many : ℕ) (x : A) (whole : Option B) → i < length xs → x ≡ get_or xs i x → Placed f xs i left whole
-    → many ≡ min (length (f x)) (2 ^ 48 + 1) → left < many → left < length (f x)
-placed_fits f xs i left many x whole lt is so counted less = omega (arith, counted, less)
-
 pub placed_here : {A B : Type 0} (f : A → List B) (xs : List A) (i left many : ℕ) (x : A) (whole : Option B) → i < length xs → x ≡ get_or xs i x → Placed f xs i left whole
     → many ≡ min (length (f x)) (2 ^ 48 + 1) → left < many → slice_get (f x) left ≡ whole
 placed_here f xs i left many x whole lt is so counted less =
@@ -44,10 +39,6 @@ placed_further f xs i left many x whole lt is so counted more =
       same = sym (get_back (f x) (flat_map f (drop (i + 1) xs)) (left - many) left (omega (arith, exact, more))) ∙ sym (ap (λ ls. slice_get ls left) cut.is) ∙ so.same;
     }
 
--- past the last item there is none
-pub placed_nowhere : {A B : Type 0} (f : A → List B) (xs : List A) (i left : ℕ) (whole : Option B) → length xs ≤ i → Placed f xs i left whole → left < 0
-placed_nowhere f xs i left whole past so = omega (arith, so.there, ap (λ ls. length (flat_map f ls)) (drop_all i xs past))
-
 -- one command alone
 written_first : (chosen : List ℕ) (x : ℕ) → 1 ≤ length chosen → take 1 (set chosen 0 x) ≡ x ∷ []
 written_first [] x some = absurd (omega (arith, some))
@@ -61,12 +52,6 @@ single_here p alone joint number command chosen lt is some =
     ∙ get_mapped (λ n. n ∷ []) (filter p alone) number
     ∙ ap (option_map (λ n. n ∷ [])) is
     ∙ ap Some (sym (written_first chosen command some))
-
--- how many choices there are
-pub choices_size : (p : ℕ → Bool) (alone : List ℕ) (joint : List (List (List ℕ)))
-    → length (choice_lists p alone joint) ≡ length (filter p alone) + length (flat_map (joint_lists p) joint)
-choices_size p alone joint =
-    omega (arith, length-append (map (λ n. n ∷ []) (filter p alone)) (flat_map (joint_lists p) joint), length-map (filter p alone) (λ (n : ℕ). n ∷ []))
 
 -- the further ones are those of actions
 pub joint_here : (p : ℕ → Bool) (alone : List ℕ) (joint : List (List (List ℕ))) (number count : ℕ) → count ≡ length (filter p alone) → count ≤ number

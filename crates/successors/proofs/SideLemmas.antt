@@ -1,23 +1,22 @@
 -- What right sides assign is what the chain's assignments do.
-use Rattle.std.proofs.Common.{◌≡◌, ℕ, ◌+◌, ◌<◌, List, [], ◌∷◌, ◌++◌, length, get_or, take, drop, Bool, true, ◌&&◌, refl, sym, ap, ◌∙◌, subst, Result, Ok, Err}
-use Rattle.std.specs.Prelude.{ℤ, not, int_le, slice_get, slice_set}
-use Rattle.std.proofs.lemmas.List.{at_drop_more, take_more}
+use Rattle.std.proofs.Common.{◌≡◌, ℕ, ◌+◌, ◌<◌, List, [], ◌∷◌, ◌++◌, length, get_or, take, Bool, true, ◌&&◌, refl, sym, ap, ◌∙◌, subst, Result, Ok, Err}
+use Rattle.std.specs.Prelude.{ℤ, not, int_le, slice_get}
+use Rattle.std.proofs.lemmas.List.{take_more}
 use Rattle.chain_model.specs.declared.outcome.TraceFault.{TraceFault}
 use Rattle.chain_model.specs.declared.outcome.TraceFault.TheVariants.{Range}
 use Rattle.chain_model.specs.declared.expressions.Typed.{Typed}
 use Rattle.chain_model.specs.declared.chain.Chain.{Chain}
 use Rattle.chain_model.specs.declared.chain.Var.{Var}
 use Rattle.chain_model.specs.Results.{◌>>=◌, ◌>>◌, refuse_if, each}
-use Rattle.chain_model.specs.States.{State}
 use Rattle.chain_model.specs.Values.{Valued}
 use Rattle.chain_model.specs.Choices.{value_in, no_labels}
-use Rattle.chain_model.specs.Step.{stored, is_within, assignment_of, after_assignments}
+use Rattle.chain_model.specs.Step.{stored, is_within, assignment_of}
 use Rattle.guard_code.specs.declared.nodes.Node.{Node}
 use Rattle.guard_code.specs.Wholes.{stored_of}
 use Rattle.guard_code.specs.Means.{Means}
 use Rattle.successors.specs.declared.sides.Side.{Side}
 use Rattle.successors.specs.declared.sides.Side.TheVariants as s
-use Rattle.successors.specs.Sides.{assigned_by, assigned_sides, IsConstant, IsSide, AreSides}
+use Rattle.successors.specs.Sides.{assigned_by, IsConstant, IsSide, AreSides}
 
 -- a number as the value of a variable, and where it passes a test
 abbrev made : ℕ → ℤ → Result (ℕ × ℤ) TraceFault
@@ -92,21 +91,3 @@ sides_more chain sets i set sides new side lt is so one more = record {
       ∙ sym (each_push (assigned_by state) sides side)
       ∙ ap (each (assigned_by state)) (sym more);
 }
-
--- the first assignment and the others
-first_of_all : (copy : State) (r : Result (ℕ × ℤ) TraceFault) (e : Result (List (ℕ × ℤ)) TraceFault)
-    → ((r >>= λ one. e >>= λ others. Ok (one ∷ others)) >>= λ assigned. Ok (after_assignments copy assigned))
-    ≡ (r >>= λ one. e >>= λ assigned. Ok (after_assignments (slice_set copy one.0 one.1) assigned))
-first_of_all copy (Err fault) e = refl
-first_of_all copy (Ok one) (Err fault) = refl
-first_of_all copy (Ok one) (Ok others) = refl
-
--- one assignment further
-pub assigned_next : (state copy : State) (sides : List Side) (i : ℕ) (side : Side) (made : Result (ℕ × ℤ) TraceFault)
-    → i < length sides → side ≡ get_or sides i side → assigned_by state side ≡ made
-    → assigned_sides state copy (drop i sides) ≡ (made >>= λ one. assigned_sides state (slice_set copy one.0 one.1) (drop (i + 1) sides))
-assigned_next state copy sides i side made lt is so =
-    at_drop_more (assigned_sides state copy) sides i side lt
-    ∙ ap (λ (x : Side). assigned_sides state copy (x ∷ drop (i + 1) sides)) (sym is)
-    ∙ first_of_all copy (assigned_by state side) (each (assigned_by state) (drop (i + 1) sides))
-    ∙ ap (λ (r : Result (ℕ × ℤ) TraceFault). r >>= λ one. assigned_sides state (slice_set copy one.0 one.1) (drop (i + 1) sides)) so

@@ -1,0 +1,3 @@
+mod StopLemmas
+mod StageLemmas
+mod PropertyLemmas

@@ -1,0 +1,4 @@
+pub mod Stops
+pub mod Stages
+pub mod Models
+pub mod Properties
