@@ -7,3 +7,6 @@ mod drawing;
 
 pub use drawing::{Drawn, draw};
 pub use stop_rules::Line;
+
+#[cfg(test)]
+mod tests;
