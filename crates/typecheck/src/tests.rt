@@ -1,3 +1,4 @@
+mod chains;
 mod expressions;
 mod largest;
 mod models;
