@@ -1,15 +1,12 @@
 -- A monitor that is shown one pair again and again.
-use Rattle.std.proofs.Common.{◌≡◌, ℕ, suc, ◌+◌, ◌<◌, ◌≤◌, Bool, true, false, List, [], ◌∷◌, ◌++◌, length, replicate, refl, sym, ◌∙◌, ap, subst, inl, inr, arith, add-one, length-append}
-use Rattle.std.proofs.lemmas.Bool.{cases_lt}
+use Rattle.std.proofs.Common.{◌≡◌, ℕ, ◌+◌, ◌<◌, Bool, List, [], ◌∷◌, ◌++◌, length, replicate, refl, sym, ◌∙◌, ap, subst, arith, add-one, length-append}
 use Rattle.std.proofs.lemmas.List.{append-nil, append_assoc, replicate_more, length-replicate}
 use Rattle.chain_model.specs.declared.job.PathKind.{PathKind}
 use Rattle.chain_model.specs.Paths.{horizon_of}
 use Rattle.chain_model.specs.Trace.{Pair}
 use Rattle.chain_model.specs.Settling.{Settles}
-use Rattle.path_monitor.specs.declared.step.Step.{Step}
-use Rattle.path_monitor.specs.declared.step.Step.TheVariants.{True, False, More}
 use Rattle.path_monitor.specs.declared.monitor.Monitor.{Monitor}
-use Rattle.path_monitor.specs.Watching.{HasSeen, IsOpen, Judges}
+use Rattle.path_monitor.specs.Watching.{HasSeen, IsOpen}
 use Rattle.one_trace.specs.Standing.{SettlesAgain}
 
 -- a monitor that was shown a pair so often has settled nothing yet

@@ -1,6 +1,6 @@
 -- A trace in a state without a choice stays there, and has one pair for ever.
-use Rattle.std.proofs.Common.{◌≡◌, ℕ, zero, suc, ◌+◌, Bool, true, false, List, [], ◌∷◌, ◌++◌, ◌<◌, length, take, replicate, refl, sym, ◌∙◌, ap, subst, arith, zero-add, length-append}
-use Rattle.std.specs.Prelude.{Result, Ok, Err}
+use Rattle.std.proofs.Common.{◌≡◌, ℕ, zero, suc, ◌+◌, Bool, true, false, List, [], ◌∷◌, ◌++◌, ◌<◌, length, take, replicate, sym, ◌∙◌, ap, subst, arith, zero-add, length-append}
+use Rattle.std.specs.Prelude.{Result, Ok}
 use Rattle.std.proofs.lemmas.List.{append-nil, length-replicate}
 use Rattle.trace_streams.specs.Draws.{draw_at, Place}
 use Rattle.chain_model.specs.declared.chain.Chain.{Chain}
@@ -14,11 +14,11 @@ use Rattle.chain_model.specs.Results.{◌>>=◌}
 use Rattle.chain_model.specs.States.{State}
 use Rattle.chain_model.specs.Choices.{choices_of}
 use Rattle.chain_model.specs.Step.{Configuration, no_choice, step_of}
-use Rattle.chain_model.specs.Trace.{Pair, configuration_at, pair_of, pair_at}
+use Rattle.chain_model.specs.Trace.{Pair, configuration_at, pair_at}
 use Rattle.chain_model.specs.Settling.{Settles}
 use Rattle.chain_model.specs.Outcome.{AreFirstPairs, HasValue, IsOutcome}
 use Rattle.path_monitor.specs.declared.monitor.Monitor.{Monitor}
-use Rattle.path_monitor.specs.Watching.{HasSeen, IsOpen}
+use Rattle.path_monitor.specs.Watching.{HasSeen}
 use Rattle.one_trace.specs.Underway.{IsVisited}
 use Rattle.one_trace.specs.Standing.{SettlesAgain, StandsFor}
 use Rattle.one_trace.proofs.StandingLemmas.{one_more}

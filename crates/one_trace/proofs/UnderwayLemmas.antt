@@ -1,27 +1,24 @@
 -- A trace on its way, from state to state.
-use Rattle.std.proofs.Common.{◌≡◌, ℕ, zero, suc, ◌+◌, ◌*◌, ◌-◌, ◌<◌, ◌≤◌, Bool, true, false, List, [], ◌∷◌, ◌++◌, length, take, drop, replicate, refl, sym, ◌∙◌, ap, subst, inl, inr, arith, add-one, length-append}
+use Rattle.std.proofs.Common.{◌≡◌, ℕ, zero, suc, ◌+◌, ◌<◌, ◌≤◌, Bool, List, [], ◌∷◌, ◌++◌, length, take, drop, refl, sym, ◌∙◌, ap, subst, arith, add-one, length-append}
 use Rattle.std.specs.Prelude.{Some, Result, Ok, Err, IfOk, slice_get}
-use Rattle.std.proofs.lemmas.Bool.{cases_lt}
-use Rattle.std.proofs.lemmas.List.{append-nil, append_assoc, length-replicate, replicate_more, take-append-le, take-append-drop}
+use Rattle.std.proofs.lemmas.List.{append_assoc, take-append-le, take-append-drop}
 use Rattle.std.proofs.lemmas.Option.{none-some, same_Some}
 use Rattle.trace_streams.specs.Draws.{draw_at, Place}
 use Rattle.chain_model.specs.declared.job.Job.{Job}
 use Rattle.chain_model.specs.declared.job.PathKind.{PathKind}
 use Rattle.chain_model.specs.declared.steps.Taken.{Taken}
 use Rattle.chain_model.specs.declared.outcome.TraceFault.{TraceFault}
-use Rattle.chain_model.specs.declared.outcome.Outcome.{Outcome}
 use Rattle.chain_model.specs.Paths.{horizon_of}
 use Rattle.chain_model.specs.States.{State, IsState, initial_of}
 use Rattle.chain_model.specs.Results.{◌>>=◌}
 use Rattle.chain_model.specs.Step.{Configuration, step_of}
 use Rattle.chain_model.specs.Trace.{Pair, configuration_at, pair_of, pair_at}
 use Rattle.chain_model.specs.Settling.{Settles, Holds, HasTruth}
-use Rattle.chain_model.specs.Outcome.{AreFirstPairs, NoneSettles, HasValue, HasFault, IsOutcome}
+use Rattle.chain_model.specs.Outcome.{AreFirstPairs, NoneSettles, HasValue, HasFault}
 use Rattle.path_monitor.specs.declared.monitor.Monitor.{Monitor}
 use Rattle.path_monitor.specs.Watching.{HasSeen, IsOpen}
 use Rattle.successors.specs.Moves.{next_of}
 use Rattle.one_trace.specs.Underway.{IsUnderway, IsVisited}
-use Rattle.one_trace.specs.Standing.{SettlesAgain, StandsFor}
 
 -- a trace starts in the initial state, with no pair seen
 pub underway_start : (job : Job) (trace : ℕ) (monitor : Monitor) (state : State) (draws : Place)

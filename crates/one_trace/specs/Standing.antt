@@ -1,5 +1,5 @@
 -- A trace that stays in a state for ever, and so has one pair again and again.
-use Rattle.std.specs.Prelude.{◌≡◌, ℕ, suc, Bool, true, false, List, ◌++◌, replicate}
+use Rattle.std.specs.Prelude.{ℕ, suc, Bool, true, false, List, ◌++◌, replicate}
 use Rattle.chain_model.specs.declared.job.PathKind.{PathKind}
 use Rattle.chain_model.specs.declared.outcome.Outcome.{Outcome}
 use Rattle.chain_model.specs.declared.outcome.Outcome.TheVariants.{True, False, Fault}

@@ -1,5 +1,5 @@
 -- What a monitor says that is shown one pair again and again.
-use Rattle.std.proofs.Common.{◌≡◌, ◌<◌, ◌+◌, List, arith, true, false}
+use Rattle.std.proofs.Common.{◌<◌, ◌+◌, arith, true, false}
 use Rattle.chain_model.specs.Paths.{horizon_of}
 use Rattle.one_trace.proofs.StandingLemmas.{stood_settled, stood_once_more, stood_short}
 use Rattle.one_trace.proofs.standing.stand.Goals as goal

@@ -1,5 +1,5 @@
 -- A trace starts, and ends by its horizon.
-use Rattle.std.proofs.Common.{◌≡◌, ℕ, ◌+◌, ◌<◌, length, ap, arith}
+use Rattle.std.proofs.Common.{◌≡◌, ◌+◌, ◌<◌, length, ap, arith}
 use Rattle.chain_model.specs.Paths.{horizon_of}
 use Rattle.one_trace.proofs.UnderwayLemmas.{underway_start}
 use Rattle.one_trace.proofs.trace.follow.Goals as goal

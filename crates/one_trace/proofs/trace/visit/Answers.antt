@@ -1,6 +1,6 @@
 -- What the pair of a state says.
 use Rattle.std.proofs.Common.{true, false}
-use Rattle.one_trace.proofs.UnderwayLemmas.{has_value, faults_here, visited}
+use Rattle.one_trace.proofs.UnderwayLemmas.{has_value, faults_here}
 use Rattle.one_trace.proofs.trace.visit.Goals as goal
 
 pub returns-in-Err-clause-settled : goal.returns-in-Err-clause-settled
