@@ -10,3 +10,4 @@ pub mod KeepingLemmas
 pub mod PartLemmas
 pub mod RefusalLemmas
 pub mod SortedLemmas
+pub mod OneValueLemmas

@@ -20,7 +20,7 @@ mod wrong_types;
 pub use consts::{Constant, Consts};
 pub use evaluating::value;
 pub use fault::ConstFault;
-pub use laws::{one_refusal, one_result, value_of_sort};
+pub use laws::{one_refusal, one_result, one_values, value_of_sort};
 pub use refusals::constants;
 pub use sorting::sort;
 pub use tables::{declared_sort, function, operator};

@@ -1,7 +1,6 @@
 -- Want of memory is no refusal.
-use Rattle.std.proofs.Common.{◌≡◌, sym, subst, inl, inr}
+use Rattle.std.proofs.Common.{sym, subst, inl, inr}
 use Rattle.std.specs.Prelude.{◌⊎◌, IsSome, IfErr, Result, Ok, Err}
-use Rattle.prism_lexer.specs.declared.fault.LexFault.{LexFault}
 use Rattle.module_expand.specs.declared.fault.ExpandFault.{ExpandFault}
 use Rattle.module_expand.specs.declared.fault.ExpandFault.TheVariants as expand
 use Rattle.module_expand.specs.Refusals as expanding
@@ -14,8 +13,7 @@ use Rattle.typecheck.specs.Refusals as typing
 use Rattle.smc_report.specs.declared.reason.Reason.{Reason}
 use Rattle.smc_report.specs.declared.reason.Reason.TheVariants as reason
 use Rattle.smc_report.specs.declared.reason.Subject.{Subject}
-use Rattle.smc_report.specs.declared.reason.Subject.TheVariants as subject
-use Rattle.smc_report.specs.Refusals.{row_of, expand_row, const_row, type_row}
+use Rattle.smc_report.specs.Refusals.{row_of}
 use Rattle.front_end.specs.declared.stop.Stop.{Stop}
 use Rattle.front_end.specs.declared.stop.Stop.TheVariants.{Refused, OutOfMemory}
 use Rattle.front_end.specs.Stops.{StopTells, StopsFor, IsReasonOf}

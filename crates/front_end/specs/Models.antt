@@ -1,7 +1,6 @@
 -- What a model's text says, stage by stage: its tokens, its tree, its flat text, the values of its constants, its chain. The
 -- first stage that refuses it refuses the text.
 use Rattle.std.specs.Prelude.{◌≡◌, ℕ, List, Result, Ok, Err}
-use Rattle.chain_model.specs.declared.chain.Chain.{Chain}
 use Rattle.chain_model.specs.declared.constants.Given.{Given}
 use Rattle.chain_model.specs.Limits.{most_model_bytes}
 use Rattle.prism_syntax.specs.declared.tokens.Token.{Token}

@@ -12,7 +12,7 @@ use Rattle.prism_lexer.specs.Outcome.{IsCutInto, HasTooMany, HasBadByte, HasWide
 use Rattle.prism_limits.specs.declared.kinds.TextKind.TheVariants as kind
 use Rattle.prism_parser.specs.declared.fault.ParseFault.{ParseFault}
 use Rattle.prism_parser.specs.Models.{HasLongModel}
-use Rattle.prism_parser.specs.Outcome.{IsNoText, Tells}
+use Rattle.prism_parser.specs.Outcome.{IsNoText, RanOut, Tells}
 use Rattle.prop_parser.specs.Properties.{HasLongProperty}
 use Rattle.smc_report.specs.declared.reason.Subject.{Subject}
 use Rattle.smc_report.specs.declared.reason.Reason.{Reason}
@@ -31,10 +31,12 @@ pub data CutTells (subject : Subject) (most : ℕ) (text : List ℕ) : Result (L
   is_not_cut : {fault : LexFault} → length text ≤ most → IsLexFault text fault → CutTells subject most text (Err (Lex subject fault))
   is_cut : {tokens : List Token} → length text ≤ most → IsCutInto text tokens → CutTells subject most text (Ok tokens)
 
--- what parsing a model tells: the tree, or the first refusal
+-- what parsing a model tells: the tree, or the first refusal; want of memory is none
 abbrev pub ParsesModel : List Token → Result ModelText ParseFault → Type 0
-ParsesModel tokens = Tells kind.Model (IsModel (kinds tokens)) HasLongModel (IsNoText IsModel (kinds tokens)) tokens 0
+ParsesModel tokens answer =
+    Tells kind.Model (IsModel (kinds tokens)) HasLongModel (IsNoText IsModel (kinds tokens)) tokens 0 answer × ¬ RanOut answer
 
--- what parsing a property tells
+-- what parsing a property tells: the tree, or the first refusal; want of memory is none
 abbrev pub ParsesProperty : List Token → Result Property ParseFault → Type 0
-ParsesProperty tokens = Tells kind.Property (IsProperty (kinds tokens)) HasLongProperty (IsNoText IsProperty (kinds tokens)) tokens 0
+ParsesProperty tokens answer =
+    Tells kind.Property (IsProperty (kinds tokens)) HasLongProperty (IsNoText IsProperty (kinds tokens)) tokens 0 answer × ¬ RanOut answer

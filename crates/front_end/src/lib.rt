@@ -2,11 +2,13 @@
 //! refuse them, which is that of the first stage that does.
 #![tactic(auto)]
 
+mod laws;
 mod models;
 mod properties;
 mod stages;
 mod stop;
 
+pub use laws::{one_model_law, one_property_law};
 pub use models::{Model, read_model};
 pub use properties::read_property;
 pub use stop::Stop;

@@ -11,8 +11,8 @@ use Rattle.prism_syntax.specs.WellFormed.{IsFormedKind}
 use Rattle.prism_lexer.specs.declared.fault.LexFault.{LexFault}
 use Rattle.prism_lexer.specs.declared.fault.LexFault.TheVariants.{TooMany, BadByte, NumberTooWide, OutOfMemory}
 use Rattle.prism_syntax.specs.Outcome.{ComesWhere, IsFaultOf}
-use Rattle.prism_lexer.specs.Outcome.{BeginsNoToken, IsCutInto, HasTooMany, HasBadByte, HasWideNumber, IsOutOfMemory, Gives}
-use Rattle.prism_lexer.specs.Steps.{Tells, seen}
+use Rattle.prism_lexer.specs.Outcome.{BeginsNoToken, IsCutInto, HasTooMany, HasBadByte, HasWideNumber, IsOutOfMemory, Gives, Tells}
+use Rattle.prism_lexer.specs.Steps.{seen}
 use Rattle.prism_lexer.proofs.ReadLemmas.{nil_no_token, stuck_none, stuck_end, stuck_wide, stop_same, further}
 
 -- a text is cut into one list of tokens
@@ -61,6 +61,30 @@ bad_wide text at place x y =
 wide_wide : (text : List ℕ) (at place : ℕ) → HasWideNumber text at → HasWideNumber text place → at ≡ place
 wide_wide text at place x y =
     (stop_same text x.tokens y.tokens at place x.rest y.rest x.read (stuck_wide x.rest x.bytes x.after x.clear x.wide) y.read (stuck_wide y.rest y.bytes y.after y.clear y.wide)).places
+
+-- so one answer is true of the text, unless memory ran out
+pub one_outcome : (text : List ℕ) (a b : Result (List Token) LexFault) → Tells text a → Tells text b → (IsFaultOf IsOutOfMemory a → ⊥) → (IsFaultOf IsOutOfMemory b → ⊥) → a ≡ b
+one_outcome text (Ok ts) (Ok us) x y some more = ap Ok (one_list text ts us x.cut y.cut)
+one_outcome text (Ok ts) (Err TooMany) x y some more = absurd (many_ok text ts y x)
+one_outcome text (Ok ts) (Err (BadByte at)) x y some more = absurd (ok_bad text ts at x y)
+one_outcome text (Ok ts) (Err (NumberTooWide at)) x y some more = absurd (ok_wide text ts at x y)
+one_outcome text (Err TooMany) (Ok ts) x y some more = absurd (many_ok text ts x y)
+one_outcome text (Err TooMany) (Err TooMany) x y some more = refl
+one_outcome text (Err TooMany) (Err (BadByte at)) x y some more = absurd (many_bad text at x y)
+one_outcome text (Err TooMany) (Err (NumberTooWide at)) x y some more = absurd (many_wide text at x y)
+one_outcome text (Err (BadByte at)) (Ok ts) x y some more = absurd (ok_bad text ts at y x)
+one_outcome text (Err (BadByte at)) (Err TooMany) x y some more = absurd (many_bad text at y x)
+one_outcome text (Err (BadByte at)) (Err (BadByte place)) x y some more = ap (λ p. Err (BadByte p)) (bad_bad text at place x y)
+one_outcome text (Err (BadByte at)) (Err (NumberTooWide place)) x y some more = absurd (bad_wide text at place x y)
+one_outcome text (Err (NumberTooWide at)) (Ok ts) x y some more = absurd (ok_wide text ts at y x)
+one_outcome text (Err (NumberTooWide at)) (Err TooMany) x y some more = absurd (many_wide text at y x)
+one_outcome text (Err (NumberTooWide at)) (Err (BadByte place)) x y some more = absurd (bad_wide text place at y x)
+one_outcome text (Err (NumberTooWide at)) (Err (NumberTooWide place)) x y some more = ap (λ p. Err (NumberTooWide p)) (wide_wide text at place x y)
+one_outcome text (Err (OutOfMemory fault)) b x y some more = absurd (some tt)
+one_outcome text (Ok ts) (Err (OutOfMemory fault)) x y some more = absurd (more tt)
+one_outcome text (Err TooMany) (Err (OutOfMemory fault)) x y some more = absurd (more tt)
+one_outcome text (Err (BadByte at)) (Err (OutOfMemory fault)) x y some more = absurd (more tt)
+one_outcome text (Err (NumberTooWide at)) (Err (OutOfMemory fault)) x y some more = absurd (more tt)
 
 -- ---- what an answer that is true of the text says
 

@@ -9,10 +9,10 @@ use Rattle.prism_syntax.specs.declared.tokens.Token.{Token}
 use Rattle.prism_syntax.specs.Tokens.{IsToken, IsFirstToken, Reads}
 use Rattle.prism_syntax.specs.Tokens as read
 use Rattle.prism_lexer.specs.declared.lexeme.Lexeme.{Lexeme}
-use Rattle.prism_lexer.specs.Outcome.{StandsClear, token_limit, IsCutInto}
+use Rattle.prism_lexer.specs.Outcome.{StandsClear, token_limit, IsCutInto, Tells}
 use Rattle.prism_lexer.specs.Lexemes.{IsLongestLexeme}
 use Rattle.prism_lexer.specs.Blanks.{Passes}
-use Rattle.prism_lexer.specs.Steps.{IsNext, IsCutting, Refuses, Tells}
+use Rattle.prism_lexer.specs.Steps.{IsNext, IsCutting, Refuses}
 use Rattle.prism_lexer.specs.declared.fault.LexFault.{LexFault}
 use Rattle.prism_lexer.specs.declared.fault.LexFault.TheVariants.{TooMany, BadByte, NumberTooWide, OutOfMemory}
 use Rattle.prism_lexer.proofs.FormLemmas.{token_some}

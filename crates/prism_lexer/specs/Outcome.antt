@@ -6,7 +6,7 @@ use Rattle.prism_syntax.specs.declared.tokens.Kind.{Kind}
 use Rattle.prism_syntax.specs.declared.tokens.Token.{Token}
 use Rattle.prism_syntax.specs.Tokens.{IsToken, IsFirstToken, BeginsNoComment, is_blank, Reads, AreTokensOf}
 use Rattle.prism_lexer.specs.declared.fault.LexFault.{LexFault}
-use Rattle.prism_lexer.specs.declared.fault.LexFault.TheVariants.{OutOfMemory}
+use Rattle.prism_lexer.specs.declared.fault.LexFault.TheVariants.{TooMany, BadByte, NumberTooWide, OutOfMemory}
 
 -- neither a blank nor a comment begins a text
 pub record StandsClear (text : List ℕ) : Type 0 where
@@ -56,6 +56,14 @@ pub record HasWideNumber (text : List ℕ) (at : ℕ) : Type 0 where
   pub room : length tokens < token_limit
   pub clear : StandsClear rest
   pub wide : IsFirstToken rest bytes None after
+
+-- an answer is true of the text; want of memory tells nothing
+abbrev pub Tells : List ℕ → Result (List Token) LexFault → Type 0
+Tells text (Ok tokens) = IsCutInto text tokens
+Tells text (Err TooMany) = HasTooMany text
+Tells text (Err (BadByte at)) = HasBadByte text at
+Tells text (Err (NumberTooWide at)) = HasWideNumber text at
+Tells text (Err (OutOfMemory fault)) = Unit {0}
 
 -- memory ran out
 abbrev pub IsOutOfMemory : LexFault → Type 0

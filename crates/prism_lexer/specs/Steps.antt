@@ -6,15 +6,7 @@ use Rattle.prism_syntax.specs.declared.tokens.Token.{Token}
 use Rattle.prism_syntax.specs.Tokens.{IsFirstToken, Reads}
 use Rattle.prism_lexer.specs.declared.fault.LexFault.{LexFault}
 use Rattle.prism_lexer.specs.declared.fault.LexFault.TheVariants.{TooMany, BadByte, NumberTooWide, OutOfMemory}
-use Rattle.prism_lexer.specs.Outcome.{StandsClear, BeginsNoToken, token_limit, IsCutInto, HasTooMany, HasBadByte, HasWideNumber}
-
--- an answer is true of the text; want of memory tells nothing
-abbrev pub Tells : List ℕ → Result (List Token) LexFault → Type 0
-Tells text (Ok tokens) = IsCutInto text tokens
-Tells text (Err TooMany) = HasTooMany text
-Tells text (Err (BadByte at)) = HasBadByte text at
-Tells text (Err (NumberTooWide at)) = HasWideNumber text at
-Tells text (Err (OutOfMemory fault)) = Unit {0}
+use Rattle.prism_lexer.specs.Outcome.{StandsClear, BeginsNoToken, token_limit}
 
 -- an answer with its tokens as a list
 abbrev pub seen : Result (Vec Token Global) LexFault → Result (List Token) LexFault

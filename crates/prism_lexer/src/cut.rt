@@ -2,8 +2,8 @@ ghost use Rattle.std.specs.Prelude.{◌≡◌, ◌+◌, ◌<◌, ◌^◌, ℕ, L
 ghost use Rattle.prism_syntax.specs.declared.tokens.Token.{Token};
 ghost use Rattle.prism_syntax.specs.WellFormed.{IsFormedKind};
 ghost use Rattle.prism_syntax.specs.Outcome.{ComesWhere};
-ghost use Rattle.prism_lexer.specs.Outcome.{IsCutInto, HasTooMany, HasBadByte, HasWideNumber, IsOutOfMemory, Gives};
-ghost use Rattle.prism_lexer.specs.Steps.{Tells, seen, IsNext, Refuses};
+ghost use Rattle.prism_lexer.specs.Outcome.{IsCutInto, HasTooMany, HasBadByte, HasWideNumber, IsOutOfMemory, Gives, Tells};
+ghost use Rattle.prism_lexer.specs.Steps.{seen, IsNext, Refuses};
 
 use crate::blanks::past_blanks;
 use crate::fault::LexFault;

@@ -12,7 +12,7 @@ mod scanning;
 
 pub use cut::tokens;
 pub use fault::LexFault;
-pub use laws::one_cut;
+pub use laws::{one_cut, one_outcome};
 
 #[cfg(test)]
 mod tests;

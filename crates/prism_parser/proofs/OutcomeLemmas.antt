@@ -1,5 +1,5 @@
 -- Tokens have one answer.
-use Rattle.std.proofs.Common.{◌≡◌, ℕ, ◌<◌, ◌+◌, ◌-◌, List, length, drop, Some, ◌⊎◌, inl, inr, refl, sym, ◌∙◌, ap, subst, arith}
+use Rattle.std.proofs.Common.{◌≡◌, ℕ, ◌<◌, ◌+◌, ◌-◌, List, length, drop, Some, ◌⊎◌, inl, inr, ⊎_elim, refl, sym, ◌∙◌, ap, subst, arith}
 use Rattle.std.specs.Prelude.{Result, Ok, Err, slice_get, unwrap_or}
 use Rattle.prism_syntax.specs.declared.tokens.Token.{Token}
 use Rattle.prism_syntax.specs.Tokens.{kinds}
@@ -139,3 +139,16 @@ says_not_in_grammar {X} text Found Long Failed tokens start answer at decided to
     always (Err (TooDeep place)) x y = absurd (allowed_deep y.allowed x)
     always (Err (NotInGrammar place)) x y = inl (ap (λ p. Err (NotInGrammar p)) (grammar_same decided x y))
     always (Err (OutOfMemory fault)) x y = inr tt
+
+-- an answer that comes where its fact holds comes, unless memory ran out
+came : {X : Type 0} {answer this : Result X ParseFault} {Fact : Type 0} → ComesWhere answer this Fact → Fact → (RanOut answer → ⊥) → answer ≡ this
+came comes fact some = ⊎_elim (λ same. same) (λ out. absurd (some out)) (comes.always fact)
+
+-- so one answer is true of the tokens, unless memory ran out
+pub one_answer : {X : Type 0} (text : TextKind) (Found Long : X → Type 0) (Failed : ℕ → Type 0) (tokens : List Token) (start : ℕ) → IsDecided Found Failed → (a b : Result X ParseFault)
+    → Tells text Found Long Failed tokens start a → Tells text Found Long Failed tokens start b → (RanOut a → ⊥) → (RanOut b → ⊥) → a ≡ b
+one_answer text Found Long Failed tokens start decided a (Ok tree) x y some more = came (says_ok text Found Long Failed tokens start a tree decided x) y some
+one_answer text Found Long Failed tokens start decided a (Err (Unsupported word at)) x y some more = came (says_unsupported text Found Long Failed tokens start a word at decided x) y some
+one_answer text Found Long Failed tokens start decided a (Err (TooDeep at)) x y some more = came (says_too_deep text Found Long Failed tokens start a at x) y some
+one_answer text Found Long Failed tokens start decided a (Err (NotInGrammar at)) x y some more = came (says_not_in_grammar text Found Long Failed tokens start a at decided x) y some
+one_answer text Found Long Failed tokens start decided a (Err (OutOfMemory fault)) x y some more = absurd (more tt)

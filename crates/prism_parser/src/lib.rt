@@ -10,7 +10,7 @@ mod refusals;
 
 pub use expressions::expression;
 pub use fault::ParseFault;
-pub use laws::model_arrow_law;
+pub use laws::{model_arrow_law, one_answer};
 pub use models::model;
 pub use places::place_of;
 pub use refusals::{allow, refuse_chains};

@@ -7,7 +7,7 @@ mod paths;
 mod properties;
 mod times;
 
-pub use laws::{begins_property, one_property, property_arrow_law};
+pub use laws::{begins_property, one_answer, one_property, property_arrow_law};
 pub use properties::property;
 
 #[cfg(test)]

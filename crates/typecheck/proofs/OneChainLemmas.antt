@@ -2,6 +2,9 @@
 use Rattle.std.proofs.Common.{◌≡◌, ℕ, zero, suc, ◌+◌, ◌<◌, List, [], ◌∷◌, Option, Bool, true, false, All, length, map, get_or, refl, sym, ap, ◌∙◌, subst, unwrap_or, arith}
 use Rattle.std.specs.Prelude.{None, Some, Ok, ℤ, pos, MatchOption, ◌==◌, ◌||◌}
 use mathlib.Core.Logic.{inl, inr}
+use mathlib.Core.HLevel.{is_prop→PathP}
+use mathlib.Core.Path.{PathP}
+use Rattle.std.proofs.Props.{props}
 use Rattle.std.specs.List.{AllZip, AllPairs, list_any}
 use Rattle.std.specs.Result.{result_unwrap_or}
 use Rattle.std.proofs.lemmas.Bool.{cases_Bool, eqb-true, eq-eqb}
@@ -16,7 +19,7 @@ use Rattle.chain_model.specs.declared.chain.Action.{Action}
 use Rattle.chain_model.specs.declared.chain.Arm.{Arm}
 use Rattle.chain_model.specs.declared.chain.Act.{Act}
 use Rattle.chain_model.specs.declared.chain.Chain.{Chain}
-use Rattle.chain_model.specs.Chain.{IsAction, is_part}
+use Rattle.chain_model.specs.Chain.{IsAction, IsChain, is_part}
 use Rattle.chain_model.specs.Step.{stored}
 use Rattle.chain_model.specs.Values.{Valued}
 use Rattle.prism_syntax.specs.declared.expressions.Expr.{Expr}
@@ -31,7 +34,7 @@ use Rattle.typed_trees.specs.Leaves.{literal}
 use Rattle.typed_trees.specs.Numbers.{constant_value}
 use Rattle.typecheck.specs.Declarations.{declared_variables, declared_commands, declared_actions}
 use Rattle.typecheck.specs.Chains as chains
-use Rattle.typecheck.specs.Chains.{HasNumber, IsVariableOf, IsNumberOf, IsTreeOf, IsBranchOf, IsCommandOf, IsLabelOf, IsChainOf, HaveSameParts}
+use Rattle.typecheck.specs.Chains.{HasNumber, IsVariableOf, IsNumberOf, IsTreeOf, IsBranchOf, IsCommandOf, IsLabelOf, IsChainOf}
 use Rattle.typecheck.proofs.MakingLemmas.{same-Some, pairs-head, pairs-tail}
 
 -- where each has one partner at most, lists have
@@ -175,18 +178,25 @@ actions-one (a ∷ cs) (b ∷ ds) same takes =
     let first : a.takes ≡ b.takes = takes 0 a (omega arith) (omega arith) in
     λ i. record { name = title i; takes = first i } ∷ actions-one cs ds others (λ j d lt less. takes (suc j) d (omega (arith, lt)) (omega (arith, less))) i
 
--- two chains of a model have the same parts
-pub chain-once : (flat : FlatText) (consts : List (Name × Constant)) (chain other : Chain) → IsChainOf flat consts chain → IsChainOf flat consts other → HaveSameParts chain other
-chain-once flat consts chain other one two = record {
-  vars = zip-one (IsVariableOf consts) (one-variable consts) (declared_variables flat) chain.vars other.vars one.vars two.vars;
-  actions = actions-one chain.actions other.actions (one.actions ∙ sym two.actions) (λ i d lt less.
-      takes-one other.commands i (get_or chain.actions i d) (get_or other.actions i d)
-      (subst (λ (cs : List Act). IsAction cs i (get_or chain.actions i d)) commands-same (chain.well_formed.each_action.each i d lt))
-      (other.well_formed.each_action.each i d less));
-  modules = one.modules ∙ sym two.modules;
-  commands = commands-same;
-  labels = zip-one (IsLabelOf consts flat) (one-label consts flat) flat.labels chain.labels other.labels one.labels two.labels;
-}
+-- chains of the same parts are one
+chain-same : (a b : Chain) → a.vars ≡ b.vars → a.actions ≡ b.actions → a.modules ≡ b.modules → a.commands ≡ b.commands → a.labels ≡ b.labels → a ≡ b
+chain-same a b vars actions modules commands labels =
+    let formed : PathP (λ i. IsChain (vars i) (actions i) (modules i) (commands i) (labels i)) a.well_formed b.well_formed =
+    is_prop→PathP (λ i. IsChain (vars i) (actions i) (modules i) (commands i) (labels i)) (λ i. hlevel props) a.well_formed b.well_formed in
+    λ i. record { vars = vars i; actions = actions i; modules = modules i; commands = commands i; labels = labels i; well_formed = formed i }
+
+-- two chains of a model are one
+pub chain-once : (flat : FlatText) (consts : List (Name × Constant)) (chain other : Chain) → IsChainOf flat consts chain → IsChainOf flat consts other → chain ≡ other
+chain-once flat consts chain other one two =
+    chain-same chain other
+    (zip-one (IsVariableOf consts) (one-variable consts) (declared_variables flat) chain.vars other.vars one.vars two.vars)
+    (actions-one chain.actions other.actions (one.actions ∙ sym two.actions) (λ i d lt less.
+    takes-one other.commands i (get_or chain.actions i d) (get_or other.actions i d)
+    (subst (λ (cs : List Act). IsAction cs i (get_or chain.actions i d)) commands-same (chain.well_formed.each_action.each i d lt))
+    (other.well_formed.each_action.each i d less)))
+    (one.modules ∙ sym two.modules)
+    commands-same
+    (zip-one (IsLabelOf consts flat) (one-label consts flat) flat.labels chain.labels other.labels one.labels two.labels)
   where
     commands-same : chain.commands ≡ other.commands
     commands-same = zip-one (IsCommandOf consts flat) (one-command consts flat) (declared_commands flat) chain.commands other.commands one.commands two.commands

@@ -75,11 +75,3 @@ pub record IsChainOf (flat : FlatText) (consts : List (Name × Constant)) (chain
   pub modules : chain.modules ≡ map module_name flat.modules
   pub commands : AllZip (IsCommandOf consts flat) (declared_commands flat) chain.commands
   pub labels : AllZip (IsLabelOf consts flat) flat.labels chain.labels
-
--- two chains have the same parts
-pub record HaveSameParts (chain other : Chain) : Type 0 where
-  pub vars : chain.vars ≡ other.vars
-  pub actions : chain.actions ≡ other.actions
-  pub modules : chain.modules ≡ other.modules
-  pub commands : chain.commands ≡ other.commands
-  pub labels : chain.labels ≡ other.labels

@@ -9,7 +9,7 @@ ghost use Rattle.prism_syntax.specs.declared.properties.Property.{Property};
 ghost use Rattle.prism_names.specs.First.{Name};
 ghost use Rattle.const_eval.specs.declared.consts.Constant.{Constant};
 ghost use Rattle.typecheck.specs.declared.fault.TypeFault.{TypeFault};
-ghost use Rattle.typecheck.specs.Chains.{IsChainOf, HaveSameParts};
+ghost use Rattle.typecheck.specs.Chains.{IsChainOf};
 ghost use Rattle.typecheck.specs.ModelRefusals.{IsRefused};
 ghost use Rattle.typecheck.specs.Paths.{IsPathOf};
 ghost use Rattle.typecheck.specs.PathRefusals.{IsRefusedProperty};
@@ -17,7 +17,7 @@ ghost use Rattle.typecheck.specs.PathRefusals.{IsRefusedProperty};
 /// A flat model with its constants has one chain at most.
 pub fn one_chain()
     ensures { (flat : FlatText) (consts : List (Name × Constant)) (chain other : Chain)
-        → IsChainOf flat consts chain → IsChainOf flat consts other → HaveSameParts chain other }
+        → IsChainOf flat consts chain → IsChainOf flat consts other → chain ≡ other }
 {}
 
 /// A flat model with its constants is refused with one fault at most.

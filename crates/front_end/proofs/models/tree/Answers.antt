@@ -1,7 +1,6 @@
 -- The fault of parsing a model.
 use Rattle.std.proofs.Common.{refl}
 use Rattle.std.specs.Prelude.{Err}
-use Rattle.prism_syntax.specs.declared.models.ModelText.{ModelText}
 use Rattle.prism_syntax.specs.Tokens.{kinds}
 use Rattle.prism_syntax.specs.Models.{IsModel}
 use Rattle.prism_limits.specs.declared.kinds.TextKind.TheVariants as kind
@@ -23,8 +22,8 @@ returns-in-Err-clause-refused c =
     (λ row. (
       c.in-Err.fault,
       refl,
-      parse_told kind.Model (IsModel (kinds c.args.tokens.now)) HasLongModel
+      parse_told subject.Model kind.Model (IsModel (kinds c.args.tokens.now)) HasLongModel
           (IsNoText IsModel (kinds c.args.tokens.now)) c.args.tokens.now _ c.in-Err.fault refl
           (λ word at. (c.in-Err.ensures.unsupported word at).only) (λ at. (c.in-Err.ensures.too_deep at).only)
-          (λ at. (c.in-Err.ensures.not_in_grammar at).only),
+          (λ at. (c.in-Err.ensures.not_in_grammar at).only) row,
     ))

@@ -22,8 +22,8 @@ returns-in-Err-clause-refused c =
     (λ row. (
       c.in-Err.fault,
       refl,
-      parse_told kind.Property (IsProperty (kinds c.args.tokens.now)) HasLongProperty
+      parse_told subject.Property kind.Property (IsProperty (kinds c.args.tokens.now)) HasLongProperty
           (IsNoText IsProperty (kinds c.args.tokens.now)) c.args.tokens.now _ c.in-Err.fault refl
           (λ word at. (c.in-Err.ensures.unsupported word at).only) (λ at. (c.in-Err.ensures.too_deep at).only)
-          (λ at. (c.in-Err.ensures.not_in_grammar at).only),
+          (λ at. (c.in-Err.ensures.not_in_grammar at).only) row,
     ))
