@@ -16,7 +16,9 @@ pub mod FormulaLemmas
 pub mod TotalLemmas
 pub mod FlattenLemmas
 pub mod LeftOutLemmas
-pub mod DuplicateLemmas
+pub mod CountLemmas
+pub mod TwiceLemmas
+pub mod GroupLemmas
 pub mod DistinctLemmas
 pub mod NamedApartLemmas
 pub mod FlatFormedLemmas

@@ -7,4 +7,5 @@ pub mod Refusals
 pub mod LeftOut
 pub mod Properties
 pub mod Sizes
+pub mod Groups
 pub mod Times

@@ -28,6 +28,10 @@ abbrev pub variables_of : Module → List Variable
 variables_of (Written title vars commands) = vars
 variables_of (Renamed title source pairs) = []
 
+-- the names of the variables of a module that is written out
+abbrev pub variable_names : Module → List Name
+variable_names m = map (λ v. v.name) (variables_of m)
+
 -- the commands of a module that is written out
 abbrev pub commands_of : Module → List Command
 commands_of (Written title vars commands) = commands

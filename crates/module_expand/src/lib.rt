@@ -18,6 +18,7 @@ mod sizes;
 mod sources;
 mod tables;
 mod totals;
+mod variable_names;
 
 pub use expanding::expand;
 pub use fault::ExpandFault;

@@ -98,7 +98,7 @@ static DUPLICATES: [Row; 9] = [
     ),
 ];
 
-static NEW_NAMES: [Row; 6] = [
+static NEW_NAMES: [Row; 9] = [
     (
         &[Written("M", &["x"]), Renamed("M", "M", &[("x", "y")])],
         Cause::Duplicate,
@@ -147,6 +147,33 @@ static NEW_NAMES: [Row; 6] = [
         ],
         Cause::Duplicate,
         "y",
+    ),
+    // a renaming before its source, which has a variable twice, has the new name twice
+    (
+        &[Renamed("B", "M", &[("x", "y")]), Written("M", &["x", "x"])],
+        Cause::Duplicate,
+        "y",
+    ),
+    // of two new names the one whose variable stands first, whatever the order of the pairs
+    (
+        &[
+            Renamed("B", "M", &[("z", "v"), ("y", "w")]),
+            Renamed("C", "M", &[("z", "w"), ("y", "v")]),
+            Written("M", &["x", "y", "z"]),
+        ],
+        Cause::Duplicate,
+        "w",
+    ),
+    // a new name that is given to no variable is none
+    (
+        &[
+            Renamed("B", "M", &[("x", "y"), ("a", "y"), ("b", "y")]),
+            Written("M", &["x"]),
+            Label("l"),
+            Label("l"),
+        ],
+        Cause::Duplicate,
+        "l",
     ),
 ];
 

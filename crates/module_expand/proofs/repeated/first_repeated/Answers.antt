@@ -1,32 +1,33 @@
-use Rattle.std.proofs.Common.{count_by, map, sym, ap, ◌∙◌}
-use Rattle.std.specs.Prelude.{Some}
-use Rattle.std.specs.Option.{option_map}
-use Rattle.module_expand.specs.Duplicates.{is_same, is_repeated}
-use Rattle.module_expand.proofs.DuplicateLemmas.{declared, is_more, is_not_more}
-use Rattle.module_expand.proofs.FoundLemmas.{none_mapped_more, found_mapped, none_mapped}
+use Rattle.std.proofs.Common.{◌≡◌, ◌++◌, bytes_eq, ap, sym, ◌∙◌}
+use Rattle.std.specs.Prelude.{Some, None}
+use Rattle.std.specs.Option.{option_copied}
+use Rattle.std.specs.List.{flat_map}
+use Rattle.indexmap.specs.IndexMap.{get}
+use Rattle.module_expand.specs.Duplicates.{is_repeated}
+use Rattle.module_expand.specs.Groups.{stated}
+use Rattle.module_expand.proofs.CountLemmas.{same_twice}
+use Rattle.module_expand.proofs.TwiceLemmas.{first_where, none_more, found_here, none_all}
 use Rattle.module_expand.proofs.repeated.first_repeated.Goals as goal
 
-pub loop-declaration-preserved : goal.loop-declaration-preserved
-loop-declaration-preserved c =
-    let item = c.declaration-item.result in
-    let all = map declared c.args.all.now in
-    none_mapped_more (is_repeated all) declared c.args.declared.now c.loop-declaration.declaration-index item
-    c.loop-declaration-test.true c.declaration-item.is c.loop-declaration.invariant
-    (is_not_more c.counted_times.result (count_by (is_same (declared item)) all)
-    (c.counted_times.ensures ∙ c.in_ok-counts.ensures item.kind item.name.now) c.if-counted_times-gt1.false)
+pub loop-group-preserved : goal.loop-group-preserved
+loop-group-preserved c =
+    let all = flat_map stated c.args.before.now ++ flat_map stated c.args.declared.now in
+    none_more (is_repeated all) stated c.args.declared.now
+    c.loop-group.group-index c.group-item.result c.loop-group-test.true c.group-item.is c.loop-group.invariant
+    (ap (λ test. first_where test (stated c.group-item.result))
+    (sym (same_twice (get bytes_eq c.in_ok-counts.counts) all c.in_ok-counts.ensures))
+    ∙ (sym c.in_ok-name.ensures ∙ ap option_copied c.in_default.is))
 
-pub returns-then-counted_times-gt1 : goal.returns-then-counted_times-gt1
-returns-then-counted_times-gt1 c =
-    let item = c.declaration-item.result in
-    let all = map declared c.args.all.now in
+pub returns-in-Some : goal.returns-in-Some
+returns-in-Some c =
+    let all = flat_map stated c.args.before.now ++ flat_map stated c.args.declared.now in
     ap Some c.in_ok-copy.ensures
-    ∙ sym (ap (option_map (λ d. d.1)) (found_mapped (is_repeated all) declared c.args.declared.now
-    c.loop-declaration.declaration-index item
-    c.loop-declaration-test.true c.declaration-item.is c.loop-declaration.invariant
-    (is_more c.counted_times.result (count_by (is_same (declared item)) all)
-    (c.counted_times.ensures ∙ c.in_ok-counts.ensures item.kind item.name.now) c.if-counted_times-gt1.true)))
+    ∙ sym (found_here (is_repeated all) stated c.args.declared.now c.loop-group.group-index c.group-item.result
+    c.in-Some.name.now c.loop-group-test.true c.group-item.is c.loop-group.invariant
+    (ap (λ test. first_where test (stated c.group-item.result))
+    (sym (same_twice (get bytes_eq c.in_ok-counts.counts) all c.in_ok-counts.ensures))
+    ∙ (sym c.in_ok-name.ensures ∙ ap option_copied c.in-Some.is)))
 
 pub returns : goal.returns
-returns c = sym (ap (option_map (λ d. d.1)) (none_mapped (is_repeated (map declared c.args.all.now))
-    declared c.args.declared.now
-    c.loop-declaration.declaration-index c.loop-declaration-test.false c.loop-declaration.invariant))
+returns c = sym (none_all (is_repeated (flat_map stated c.args.before.now ++ flat_map stated c.args.declared.now)) stated
+    c.args.declared.now c.loop-group.group-index c.loop-group-test.false c.loop-group.invariant)
