@@ -10,10 +10,10 @@ use Rattle.chain_model.specs.declared.expressions.Op.{Op}
 use Rattle.chain_model.specs.declared.expressions.Op.TheVariants as o
 use Rattle.chain_model.specs.Results.{◌>>=◌}
 use Rattle.chain_model.specs.Step.{stored}
-use Rattle.chain_model.specs.Values.{Valued, join, links_value, level_value}
-use Rattle.guard_code.specs.Wholes.{WholeResult, stored_of, truth_of, as_whole, as_truth, limited, whole_result, linked_whole, wholes_after, wholes_result, compares, compare_result}
+use Rattle.chain_model.specs.Values.{Valued, as_value, join, links_value, level_value}
+use Rattle.guard_code.specs.Wholes.{WholeResult, stored_of, truth_of, as_whole, as_truth, limited, whole_result, linked_whole, wholes_after, wholes_result, compares, compare_result, quotient_value}
 use Rattle.guard_code.specs.Shapes.{is_arithmetic, is_comparison}
-use Rattle.guard_code.proofs.WholeLemmas.{numbered, as_number, as_whole-is, as_whole_small, sum-one, difference-one, product-one, equal-one, less-one, WholeValued, whole_fault, whole_number, TruthValued, truth_fault, truth_value}
+use Rattle.guard_code.proofs.WholeLemmas.{numbered, as_number, as_whole-is, as_whole_small, sum-one, difference-one, product-one, quotient-one, equal-one, less-one, WholeValued, whole_fault, whole_number, TruthValued, truth_fault, truth_value}
 
 -- ---- values that are whole numbers
 
@@ -190,3 +190,16 @@ comparison_law op (Ok (v.Bool b)) y p q is = elim p [ ]
 comparison_law op (Ok (v.Num z)) (Ok (v.Bool b)) p q is = elim q [ ]
 comparison_law op (Ok (v.Num z)) (Err f) (whole_number a small) (whole_fault g) is = ap (λ (r : Valued). r >>= λ y. links_value y [] []) (compared_fault op a f is)
 comparison_law op (Ok (v.Num z)) (Ok (v.Num u)) (whole_number a small) (whole_number b small') is = ap (λ (r : Valued). r >>= λ y. links_value y [] []) (compared op a b is)
+
+-- a quotient of two whole numbers
+no_links : (x : Valued) → (x >>= λ a. links_value a [] []) ≡ x
+no_links (Ok a) = refl
+no_links (Err f) = refl
+
+pub quotient_law : (x y : Valued) → WholeValued x → WholeValued y → level_value (x ∷ (y ∷ [])) (o.Div ∷ []) ≡ quotient_value (stored_of x ∷ (stored_of y ∷ []))
+quotient_law (Err f) y (whole_fault g) q = refl
+quotient_law (Ok (v.Bool b)) y p q = elim p [ ]
+quotient_law (Ok (v.Num z)) (Ok (v.Bool b)) p q = elim q [ ]
+quotient_law (Ok (v.Num z)) (Err f) (whole_number a small) (whole_fault g) = refl
+quotient_law (Ok (v.Num z)) (Ok (v.Num u)) (whole_number a small) (whole_number b small') =
+    no_links (join o.Div (numbered a) (Ok (numbered b))) ∙ ap as_value (quotient-one a b)

@@ -1,12 +1,15 @@
--- The least and the greatest of whole numbers.
+-- The least and the greatest of whole numbers, and remainders.
 use Rattle.std.proofs.Common.{◌≡◌, List, [], ◌∷◌, map, Bool, true, false, ℤ, unsigned_abs, int_lt, refl, sym, ◌∙◌, ap, Ok, Err, nat_lt}
-use Rattle.std.specs.Prelude.{if◌then◌else◌}
+use Rattle.std.specs.Prelude.{Result, if◌then◌else◌}
+use Rattle.smc_num.specs.declared.fault.NumFault.{NumFault}
 use Rattle.smc_num.specs.Fraction.{limit}
+use Rattle.smc_num.specs.Arithmetic.{modulo_of}
 use Rattle.chain_model.specs.declared.values.Value.TheVariants as v
 use Rattle.chain_model.specs.declared.expressions.Func.{Func}
 use Rattle.chain_model.specs.declared.expressions.Func.TheVariants as f
-use Rattle.chain_model.specs.Values.{Valued, lesser, greater, extreme_value, function_value, call_value}
-use Rattle.guard_code.specs.Wholes.{stored_of, as_whole, extreme_after, extreme_result}
+use Rattle.chain_model.specs.Results.{◌>>=◌}
+use Rattle.chain_model.specs.Values.{Valued, whole_value, remainder, lesser, greater, extreme_value, function_value, call_value}
+use Rattle.guard_code.specs.Wholes.{stored_of, as_whole, as_result, extreme_after, extreme_result, remainder_result}
 use Rattle.guard_code.specs.Shapes.{is_extreme}
 use Rattle.guard_code.proofs.WholeLemmas.{numbered, as_whole_small, less-one, WholeValued, whole_fault, whole_number}
 use Rattle.guard_code.proofs.ChainLemmas.{AllWhole}
@@ -72,3 +75,17 @@ extreme_law func x xs is all = here x all.0
     here (Err g) (whole_fault h) = refl
     here (Ok (v.Bool b)) p = elim p [ ]
     here (Ok (v.Num y)) (whole_number n small) = of_function func xs n is small all.1
+
+-- a call of `mod` with whole numbers
+pub remainder_law : (x y : Valued) → WholeValued x → WholeValued y
+    → call_value f.Mod (x ∷ (y ∷ [])) ≡ as_whole (remainder_result (stored_of x ∷ (stored_of y ∷ [])))
+unfolding as_whole
+remainder_law (Err g) y (whole_fault h) q = refl
+remainder_law (Ok (v.Bool b)) y p q = elim p [ ]
+remainder_law (Ok (v.Num z)) (Err g) (whole_number a small) (whole_fault h) = refl
+remainder_law (Ok (v.Num z)) (Ok (v.Bool b)) p q = elim q [ ]
+remainder_law (Ok (v.Num z)) (Ok (v.Num u)) (whole_number a small) (whole_number b small') = here (modulo_of a b)
+  where
+    here : (r : Result ℤ NumFault) → remainder r ≡ (as_result r >>= whole_value)
+    here (Ok n) = refl
+    here (Err g) = refl

@@ -11,6 +11,7 @@ use Rattle.chain_model.specs.declared.values.Value.TheVariants as v
 use Rattle.chain_model.specs.declared.expressions.Op.{Op}
 use Rattle.chain_model.specs.declared.expressions.Func.{Func}
 use Rattle.chain_model.specs.States.{State}
+use Rattle.chain_model.specs.Step.{stored}
 use Rattle.chain_model.specs.Values.{Valued, call_value}
 use Rattle.guard_code.specs.declared.nodes.Node.{Node}
 use Rattle.guard_code.specs.declared.nodes.Node.TheVariants as n
@@ -18,12 +19,12 @@ use Rattle.guard_code.specs.declared.plain_tests.Test.{Test}
 use Rattle.guard_code.specs.declared.shapes.Side.{Side}
 use Rattle.guard_code.specs.Tests.{IsSmall, number_in, test_holds}
 use Rattle.guard_code.specs.Shapes.{side_value}
-use Rattle.guard_code.specs.Wholes.{WholeResult, wholes_result, extreme_result, stored_of, as_truth, as_whole, compares, compare_result}
+use Rattle.guard_code.specs.Wholes.{TruthResult, WholeResult, wholes_result, extreme_result, remainder_result, stored_of, truth_of, as_truth, as_whole, compares, compare_result, choice_value}
 use Rattle.guard_code.specs.Nodes.{node_value}
 use Rattle.guard_code.specs.Means.{Always, Joins, IsWhole}
-use Rattle.guard_code.specs.Joins.{FoldsTo, CallsTo, IsCompared, IsComparisonOf, IsTestOf, IsCalculated, IsCalculationOf, IsDecided, IsJunctionOf, AreTests, stored_parts}
+use Rattle.guard_code.specs.Joins.{FoldsTo, CallsTo, IsCompared, IsComparisonOf, IsTestOf, IsCalculated, IsCalculationOf, IsQuotient, IsDecided, IsJunctionOf, AreTests, stored_parts}
 use Rattle.guard_code.proofs.WholeLemmas.{stored_as_whole, whole_again, literal_again}
-use Rattle.guard_code.proofs.NodeLemmas.{value-lit, value-number, value-shifted, value-plain, value-every, value-any, value-arithmetic, value-extreme}
+use Rattle.guard_code.proofs.NodeLemmas.{value-lit, value-number, value-shifted, value-plain, value-every, value-any, value-arithmetic, value-extreme, value-remainder, value-quotient, value-plain_if, value-if}
 use Rattle.guard_code.proofs.KindLemmas.{junction_every, junction_any}
 
 pub joins_compared : (node : Node) (op : Op) (parts : List Node) (ops : List Op) → IsCompared op parts ops → IsComparisonOf node op parts → Joins node parts ops
@@ -36,6 +37,9 @@ pub joins_calculated_ok : {E : Type 0} (r : Result Node E) (parts : List Node) (
     → IfOk r (λ node. Joins node parts ops)
 joins_calculated_ok (Ok node) parts ops chain is = joins_calculated node parts ops chain is
 joins_calculated_ok (Err e) parts ops chain is = tt
+
+pub joins_quotient : (parts : List Node) (ops : List Op) → IsQuotient parts ops → Joins (n.Quotient parts) parts ops
+joins_quotient parts ops is = record { same = λ labels state small. value-quotient labels state parts ∙ sym (is.same labels state small) }
 
 pub joins_decided : (node : Node) (deciding : Bool) (parts : List Node) (ops : List Op) → IsDecided deciding parts ops → IsJunctionOf node deciding parts → Joins node parts ops
 joins_decided node deciding parts ops chain is = record { same = λ labels state small. is.same labels state small ∙ sym (chain.same labels state small) }
@@ -106,6 +110,47 @@ whole_of_literal node x is whole =
       same = λ labels state small.
           value-lit labels state x ∙ whole ∙ ap (λ y. as_whole (stored_of y)) (sym (value-lit labels state x));
     })
+
+pub whole_of_remainder : (node : Node) (parts : List Node) → node ≡ n.Remainder parts → IsWhole node
+whole_of_remainder node parts is =
+    subst IsWhole (sym is) (record { same = λ labels state small. again (node_value labels state (n.Remainder parts)) (remainder_result (stored_parts labels state parts)) (value-remainder labels state parts) })
+
+pub whole_of_plain_if : (node : Node) (test : Test) (a b : ℤ) → node ≡ n.PlainIf test a b → IsWhole node
+whole_of_plain_if node test a b is =
+    subst IsWhole (sym is) (record { same = λ labels state small. again (node_value labels state (n.PlainIf test a b)) (Ok (if test_holds state test then a else b)) (value-plain_if labels state test a b) })
+
+choice_again : (t : TruthResult) (x y : Valued) → x ≡ as_whole (stored_of x) → y ≡ as_whole (stored_of y) → choice_value t x y ≡ as_whole (stored_of (choice_value t x y))
+unfolding as_whole
+choice_again (Err fault) x y p q = refl
+choice_again (Ok true) x y p q = p
+choice_again (Ok false) x y p q = q
+
+pub whole_of_if : (node condition first second : Node) → node ≡ n.If condition first second → IsWhole first → IsWhole second → IsWhole node
+whole_of_if node condition first second is p q =
+    subst IsWhole (sym is) (record {
+      same = λ labels state small.
+          value-if labels state condition first second
+          ∙ choice_again (truth_of (node_value labels state condition)) (node_value labels state first) (node_value labels state second) (p.same labels state small) (q.same labels state small)
+          ∙ ap (λ x. as_whole (stored_of x)) (sym (value-if labels state condition first second));
+    })
+
+-- a conditional that picks one of two whole numbers by a plain test
+picked : (h : Bool) (a b : Value) → Ok a ≡ as_whole (stored_of (Ok a)) → Ok b ≡ as_whole (stored_of (Ok b))
+    → as_whole (Ok (if h then stored a else stored b)) ≡ choice_value (truth_of (Ok (v.Bool h))) (Ok a) (Ok b)
+picked true a b p q = sym p
+picked false a b p q = sym q
+
+pub plain_if_is : (test : Test) (a b : Value) (condition first second : Node) → condition ≡ n.Plain test → first ≡ n.Lit a → second ≡ n.Lit b
+    → Ok a ≡ as_whole (stored_of (Ok a)) → Ok b ≡ as_whole (stored_of (Ok b))
+    → Always (λ labels state. node_value labels state (n.PlainIf test (stored a) (stored b))
+    ≡ choice_value (truth_of (node_value labels state condition)) (node_value labels state first) (node_value labels state second))
+plain_if_is test a b condition first second c x y p q = λ labels state small.
+    let condition_is : node_value labels state condition ≡ Ok (v.Bool (test_holds state test)) = ap (node_value labels state) c ∙ value-plain labels state test in
+    let first_is : node_value labels state first ≡ Ok a = ap (node_value labels state) x ∙ value-lit labels state a in
+    let second_is : node_value labels state second ≡ Ok b = ap (node_value labels state) y ∙ value-lit labels state b in
+    value-plain_if labels state test (stored a) (stored b)
+    ∙ picked (test_holds state test) a b p q
+    ∙ sym (λ i. choice_value (truth_of (condition_is i)) (first_is i) (second_is i))
 
 pub whole_literal : (value : Value) (x : Fraction) → value ≡ v.Num x → x.den ≡ 1 → IsFrac x → Ok value ≡ as_whole (stored_of (Ok value))
 whole_literal value x is one lowest =

@@ -8,18 +8,20 @@ use Rattle.chain_model.specs.declared.values.LabelValues.{LabelValues}
 use Rattle.chain_model.specs.declared.values.Value.{Value}
 use Rattle.chain_model.specs.declared.values.Value.TheVariants as v
 use Rattle.chain_model.specs.declared.expressions.Func.{Func}
+use Rattle.chain_model.specs.declared.expressions.Func.TheVariants as f
 use Rattle.chain_model.specs.declared.expressions.Op.{Op}
+use Rattle.chain_model.specs.declared.expressions.Op.TheVariants as o
 use Rattle.chain_model.specs.States.{State}
 use Rattle.chain_model.specs.Values.{level_value, call_value}
 use Rattle.guard_code.specs.declared.nodes.Node.{Node}
 use Rattle.guard_code.specs.declared.plain_tests.Test.{Test}
 use Rattle.guard_code.specs.Tests.{IsSmall, test_holds}
-use Rattle.guard_code.specs.Wholes.{TruthResult, stored_of, truth_of, as_whole, as_truth, compare_result, wholes_result, extreme_result, junction_result}
+use Rattle.guard_code.specs.Wholes.{TruthResult, stored_of, truth_of, as_whole, as_truth, compare_result, wholes_result, extreme_result, remainder_result, quotient_value, junction_result}
 use Rattle.guard_code.specs.Nodes.{node_value}
 use Rattle.guard_code.specs.Shapes.{is_arithmetic, is_comparison, is_extreme, is_junction}
 use Rattle.guard_code.specs.Means.{Always, IsWhole, IsTruth, IsFixed}
-use Rattle.guard_code.proofs.ExtremeLemmas.{extreme_law}
-use Rattle.guard_code.proofs.ChainLemmas.{AllWhole, whole_valued, truth_valued, arithmetic_law, comparison_law}
+use Rattle.guard_code.proofs.ExtremeLemmas.{extreme_law, remainder_law}
+use Rattle.guard_code.proofs.ChainLemmas.{AllWhole, whole_valued, truth_valued, arithmetic_law, comparison_law, quotient_law}
 use Rattle.guard_code.proofs.JunctionLemmas.{AllTruth, junction_law}
 
 rest_all : (P : Node → Type 0) (part : Node) (parts : List Node) → All P (part ∷ parts) → All P parts
@@ -75,6 +77,17 @@ whole_comparison (a ∷ (b ∷ [])) ops op two only is all = λ labels state sma
     ∙ comparison_law op (node_value labels state a) (node_value labels state b) (whole_valued (node_value labels state a) ((all 0 a (omega arith)).same labels state small))
     (whole_valued (node_value labels state b) ((all 1 b (omega arith)).same labels state small)) is
 
+-- a quotient
+pub whole_quotient : (parts : List Node) (ops : List Op) (op : Op) → length parts ≡ 2 → ops ≡ op ∷ [] → op ≡ o.Div → All IsWhole parts
+    → Always (λ labels state. level_value (map (node_value labels state) parts) ops ≡ quotient_value (map stored_of (map (node_value labels state) parts)))
+whole_quotient [] ops op two only is all = absurd (omega (arith, two))
+whole_quotient (a ∷ []) ops op two only is all = absurd (omega (arith, two))
+whole_quotient (a ∷ (b ∷ (c ∷ parts))) ops op two only is all = absurd (omega (arith, two))
+whole_quotient (a ∷ (b ∷ [])) ops op two only is all = λ labels state small.
+    ap (level_value (node_value labels state a ∷ (node_value labels state b ∷ []))) (only ∙ ap (λ (x : Op). x ∷ []) is)
+    ∙ quotient_law (node_value labels state a) (node_value labels state b) (whole_valued (node_value labels state a) ((all 0 a (omega arith)).same labels state small))
+    (whole_valued (node_value labels state b) ((all 1 b (omega arith)).same labels state small))
+
 -- a chain of `&`, or of `|`
 pub truth_chain : (deciding : Bool) (parts : List Node) (ops : List Op) → 1 ≤ length parts → length parts ≡ length ops + 1 → list_all (is_junction deciding) ops ≡ true → All IsTruth parts
     → Always (λ labels state. level_value (map (node_value labels state) parts) ops ≡ as_truth (junction_result deciding (map truth_of (map (node_value labels state) parts))))
@@ -89,6 +102,17 @@ pub whole_call : (func : Func) (parts : List Node) → 1 ≤ length parts → is
 whole_call func [] some are all = absurd (omega (arith, some))
 whole_call func (part ∷ parts) some are all = λ labels state small.
     extreme_law func (node_value labels state part) (map (node_value labels state) parts) are (whole_values labels state small (part ∷ parts) all)
+
+-- a remainder
+pub remainder_call : (func : Func) (parts : List Node) → length parts ≡ 2 → func ≡ f.Mod → All IsWhole parts
+    → Always (λ labels state. call_value func (map (node_value labels state) parts) ≡ as_whole (remainder_result (map stored_of (map (node_value labels state) parts))))
+remainder_call func [] two is all = absurd (omega (arith, two))
+remainder_call func (a ∷ []) two is all = absurd (omega (arith, two))
+remainder_call func (a ∷ (b ∷ (c ∷ parts))) two is all = absurd (omega (arith, two))
+remainder_call func (a ∷ (b ∷ [])) two is all = λ labels state small.
+    ap (λ (g : Func). call_value g (node_value labels state a ∷ (node_value labels state b ∷ []))) is
+    ∙ remainder_law (node_value labels state a) (node_value labels state b) (whole_valued (node_value labels state a) ((all 0 a (omega arith)).same labels state small))
+    (whole_valued (node_value labels state b) ((all 1 b (omega arith)).same labels state small))
 
 -- plain tests, all of which hold or some of which holds
 every_step : (b h : Bool) (rest : TruthResult) → as_truth rest ≡ Ok (v.Bool h) → as_truth (if beq b false then Ok false else rest) ≡ Ok (v.Bool (b && h))

@@ -1,6 +1,6 @@
 -- The values of nodes, kind by kind.
 use Rattle.std.proofs.Common.{◌≡◌, ℕ, List, map, Ok, sym, ap, ◌∙◌}
-use Rattle.std.specs.Prelude.{ℤ, ◌+ℤ◌}
+use Rattle.std.specs.Prelude.{ℤ, ◌+ℤ◌, if◌then◌else◌}
 use Rattle.std.specs.List.{list_all, list_any}
 use Rattle.chain_model.specs.declared.values.LabelValues.{LabelValues}
 use Rattle.chain_model.specs.declared.values.Value.{Value}
@@ -15,7 +15,7 @@ use Rattle.guard_code.specs.declared.nodes.Node.TheOpen as top
 use Rattle.guard_code.specs.declared.nodes.Node.TheFolds.{fold-roll-Node}
 use Rattle.guard_code.specs.declared.plain_tests.Test.{Test}
 use Rattle.guard_code.specs.Tests.{number_in, test_holds}
-use Rattle.guard_code.specs.Wholes.{as_whole, stored_of, wholes_result, extreme_result}
+use Rattle.guard_code.specs.Wholes.{truth_of, as_whole, stored_of, wholes_result, extreme_result, remainder_result, quotient_value, choice_value}
 use Rattle.guard_code.specs.Nodes.{node_step, node_value}
 
 pub value-lit : (l : LabelValues) (s : State) (x : Value) → node_value l s (n.Lit x) ≡ Ok x
@@ -43,3 +43,17 @@ value-extreme l s func ps = ap (node_value l s) (sym (n.rolls-Extreme func ps)) 
 pub value-arithmetic : (l : LabelValues) (s : State) (ps : List Node) (ops : List Op)
     → node_value l s (n.Arithmetic ps ops) ≡ as_whole (wholes_result (map stored_of (map (node_value l s) ps)) ops)
 value-arithmetic l s ps ops = ap (node_value l s) (sym (n.rolls-Arithmetic ps ops)) ∙ fold-roll-Node Valued (node_step l s) (top.Arithmetic ps ops)
+
+pub value-plain_if : (l : LabelValues) (s : State) (t : Test) (a b : ℤ) → node_value l s (n.PlainIf t a b) ≡ as_whole (Ok (if test_holds s t then a else b))
+value-plain_if l s t a b = ap (node_value l s) (sym (n.rolls-PlainIf t a b)) ∙ fold-roll-Node Valued (node_step l s) (top.PlainIf t a b)
+
+pub value-remainder : (l : LabelValues) (s : State) (ps : List Node)
+    → node_value l s (n.Remainder ps) ≡ as_whole (remainder_result (map stored_of (map (node_value l s) ps)))
+value-remainder l s ps = ap (node_value l s) (sym (n.rolls-Remainder ps)) ∙ fold-roll-Node Valued (node_step l s) (top.Remainder ps)
+
+pub value-quotient : (l : LabelValues) (s : State) (ps : List Node) → node_value l s (n.Quotient ps) ≡ quotient_value (map stored_of (map (node_value l s) ps))
+value-quotient l s ps = ap (node_value l s) (sym (n.rolls-Quotient ps)) ∙ fold-roll-Node Valued (node_step l s) (top.Quotient ps)
+
+pub value-if : (l : LabelValues) (s : State) (c x y : Node)
+    → node_value l s (n.If c x y) ≡ choice_value (truth_of (node_value l s c)) (node_value l s x) (node_value l s y)
+value-if l s c x y = ap (node_value l s) (sym (n.rolls-If c x y)) ∙ fold-roll-Node Valued (node_step l s) (top.If c x y)

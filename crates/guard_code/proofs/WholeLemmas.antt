@@ -5,7 +5,7 @@ use Rattle.std.specs.Prelude.{if◌then◌else◌}
 use Rattle.std.specs.Ordering.{int_eq, int_cmp, is_eq}
 use Rattle.std.specs.declared.cmp.Ordering.TheVariants.{Less, Equal, Greater}
 use Rattle.smc_num.specs.Fraction.{Fraction, limit, within, lowest, fraction_of}
-use Rattle.smc_num.specs.Arithmetic.{sum_of, difference_of, product_of, compare_of}
+use Rattle.smc_num.specs.Arithmetic.{sum_of, difference_of, product_of, quotient_of, compare_of}
 use Rattle.smc_num.proofs.GcdLemmas.{coprime_one}
 use Rattle.smc_num.proofs.LowestLemmas.{lowest_is, signed_of}
 use Rattle.smc_num.specs.declared.fault.NumFault.TheVariants as num
@@ -83,6 +83,13 @@ difference-one a b = ap₂ (λ (x y : ℤ). as_value (lowest (x -ℤ y) 1)) (tim
 pub product-one : (a b : ℤ) → as_value (product_of (over_one a) (over_one b)) ≡ as_number (limited (a *ℤ b))
 unfolding product_of
 product-one a b = lowest_whole (a *ℤ b)
+
+one_times : (n : ℤ) (d : ℕ) → d ≡ 1 → pos d *ℤ n ≡ n
+one_times n d e = grind (arith, common_steps, e)
+
+pub quotient-one : (a b : ℤ) → quotient_of (over_one a) (over_one b) ≡ fraction_of a b
+unfolding quotient_of
+quotient-one a b = ap₂ fraction_of (times_one a) (one_times b 1 refl)
 
 compare-one : (a b : ℤ) → compare_of (over_one a) (over_one b) ≡ int_cmp a b
 unfolding compare_of

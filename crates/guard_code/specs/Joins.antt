@@ -10,7 +10,7 @@ use Rattle.chain_model.specs.Values.{level_value, call_value}
 use Rattle.guard_code.specs.declared.nodes.Node.{Node}
 use Rattle.guard_code.specs.declared.plain_tests.Test.{Test}
 use Rattle.guard_code.specs.Tests.{test_holds}
-use Rattle.guard_code.specs.Wholes.{TruthResult, WholeResult, stored_of, truth_of, as_truth, as_whole, compare_result, wholes_result, extreme_result, junction_result}
+use Rattle.guard_code.specs.Wholes.{TruthResult, WholeResult, stored_of, truth_of, as_truth, as_whole, compare_result, wholes_result, extreme_result, remainder_result, quotient_value, junction_result}
 use Rattle.guard_code.specs.Nodes.{node_value}
 use Rattle.guard_code.specs.Means.{Always}
 
@@ -48,9 +48,17 @@ pub record IsCalculated (parts : List Node) (ops : List Op) : Type 0 where
 pub record IsCalculationOf (node : Node) (parts : List Node) (ops : List Op) : Type 0 where
   pub same : Always (λ labels state. node_value labels state node ≡ as_whole (wholes_result (stored_parts labels state parts) ops))
 
+-- a chain is a whole number over another
+pub record IsQuotient (parts : List Node) (ops : List Op) : Type 0 where
+  pub same : Always (λ labels state. level_value (map (node_value labels state) parts) ops ≡ quotient_value (stored_parts labels state parts))
+
 -- a call is the least or the greatest of whole numbers
 pub record IsExtreme (func : Func) (parts : List Node) : Type 0 where
   pub same : Always (λ labels state. call_value func (map (node_value labels state) parts) ≡ as_whole (extreme_result func (stored_parts labels state parts)))
+
+-- a call is the remainder of two whole numbers
+pub record IsRemainder (func : Func) (parts : List Node) : Type 0 where
+  pub same : Always (λ labels state. call_value func (map (node_value labels state) parts) ≡ as_whole (remainder_result (stored_parts labels state parts)))
 
 -- a chain is of `&`, or of `|`, and a node is that chain
 pub record IsDecided (deciding : Bool) (parts : List Node) (ops : List Op) : Type 0 where

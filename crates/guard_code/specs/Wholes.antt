@@ -2,7 +2,9 @@
 use Rattle.std.specs.Prelude.{ℤ, pos, ◌+ℤ◌, ◌-ℤ◌, ◌*ℤ◌, unsigned_abs, nat_lt, int_lt, List, [], ◌∷◌, Bool, false, not, Result, Ok, Err, if◌then◌else◌}
 use Rattle.std.specs.Bool.{beq}
 use Rattle.std.specs.Ordering.{int_eq}
-use Rattle.smc_num.specs.Fraction.{limit}
+use Rattle.smc_num.specs.declared.fault.NumFault.{NumFault}
+use Rattle.smc_num.specs.Fraction.{limit, fraction_of}
+use Rattle.smc_num.specs.Arithmetic.{modulo_of}
 use Rattle.chain_model.specs.declared.outcome.TraceFault.{TraceFault}
 use Rattle.chain_model.specs.declared.outcome.TraceFault.TheVariants.{OutOfLimit}
 use Rattle.chain_model.specs.declared.values.Value.TheVariants as v
@@ -11,7 +13,7 @@ use Rattle.chain_model.specs.declared.expressions.Func.TheVariants as f
 use Rattle.chain_model.specs.declared.expressions.Op.{Op}
 use Rattle.chain_model.specs.declared.expressions.Op.TheVariants as o
 use Rattle.chain_model.specs.Results.{◌>>=◌}
-use Rattle.chain_model.specs.Values.{Valued, truth, whole_value}
+use Rattle.chain_model.specs.Values.{Valued, truth, as_fault, as_value, whole_value}
 use Rattle.chain_model.specs.Step.{stored}
 
 -- a truth value or a fault, and a whole number or a fault
@@ -71,6 +73,24 @@ extreme_after func a (part ∷ parts) = part >>= λ b. extreme_after func (chose
 abbrev pub extreme_result : Func → List WholeResult → WholeResult
 extreme_result func [] = Ok (pos 0)
 extreme_result func (part ∷ parts) = part >>= λ a. extreme_after func a parts
+
+-- a whole number, or a fault of arithmetic as one of the trace
+abbrev pub as_result : Result ℤ NumFault → WholeResult
+as_result (Ok n) = Ok n
+as_result (Err fault) = Err (as_fault fault)
+
+-- the remainder of two whole numbers, and of two parts
+abbrev pub whole_remainder : ℤ → ℤ → WholeResult
+whole_remainder a b = as_result (modulo_of a b)
+
+abbrev pub remainder_result : List WholeResult → WholeResult
+remainder_result (x ∷ (y ∷ [])) = x >>= λ a. y >>= λ b. whole_remainder a b
+remainder_result _ = Ok (pos 0)
+
+-- a whole number over another
+abbrev pub quotient_value : List WholeResult → Valued
+quotient_value (x ∷ (y ∷ [])) = x >>= λ a. y >>= λ b. as_value (fraction_of a b)
+quotient_value _ = Ok (v.Bool false)
 
 -- how two whole numbers compare
 abbrev pub compares : Op → ℤ → ℤ → Bool

@@ -1,8 +1,9 @@
 //! Values that compiled expressions are to have.
 
 use crate::compiling::node_of;
-use crate::evaluation::{stored_in, truth_in, value};
+use crate::evaluation::value;
 use crate::fixtures::{Piece, tree};
+use crate::fronts::{stored_in, truth_in};
 use crate::labels::NoLabels;
 use chain_model::{TraceFault, Value};
 use smc_num::Frac;

@@ -5,7 +5,7 @@ ghost use Rattle.chain_model.specs.Values.{call_value};
 ghost use Rattle.guard_code.specs.Nodes.{node_value};
 ghost use Rattle.guard_code.specs.Shapes.{is_extreme};
 ghost use Rattle.guard_code.specs.Means.{Always};
-ghost use Rattle.guard_code.specs.Joins.{CallsTo, IsExtreme};
+ghost use Rattle.guard_code.specs.Joins.{CallsTo, IsExtreme, IsRemainder};
 
 use crate::calls::call;
 use crate::kinds::{all_fixed, all_whole};
@@ -50,12 +50,27 @@ fn is_extreme_call(func: Func, parts: &[Node]) -> bool
     all_whole(parts)
 }
 
+/// Whether a call is the remainder of two whole numbers.
+fn is_remainder_call(func: Func, parts: &[Node]) -> bool
+    ensures { result ≡ true → IsRemainder func parts.now }
+{
+    if parts.len() != 2 {
+        return false;
+    }
+    match func {
+        Func::Mod => all_whole(parts),
+        _ => false,
+    }
+}
+
 /// The node of a call that is not all literals.
 fn call_by_shape(func: Func, parts: Items<Node>) -> Node
     ensures { Always (λ labels state. node_value labels state result ≡ call_value func (map (node_value labels state) parts)) }
 {
     if is_extreme_call(func, parts.as_slice()) {
         Node::Extreme(func, parts)
+    } else if is_remainder_call(func, parts.as_slice()) {
+        Node::Remainder(parts)
     } else {
         Node::Call(func, parts)
     }

@@ -2,15 +2,16 @@
 
 ghost use Rattle.std.specs.Prelude.{◌≡◌, map, drop};
 ghost use Rattle.chain_model.specs.Values.{call_value, function_value, extreme_value, lesser, greater};
-ghost use Rattle.guard_code.specs.Wholes.{stored_of, extreme_after, extreme_result};
+ghost use Rattle.guard_code.specs.Wholes.{stored_of, extreme_after, extreme_result, remainder_result};
 ghost use Rattle.guard_code.specs.Nodes.{node_value};
 
-use crate::evaluation::{stored_in, value};
+use crate::evaluation::value;
+use crate::fronts::stored_in;
 use crate::labels::BuiltInLabels;
 use crate::nodes::Node;
-use crate::wholes::chosen_whole;
+use crate::wholes::{chosen_whole, whole_remainder};
 use chain_model::{Func, TraceFault, Value};
-use chain_values::{ceil_value, floor_value, greater, lesser, power, remainder};
+use chain_values::{ceil_value, floor_value, greater, lesser, power, remainder as rest_of};
 
 /// The value of a call.
 #[cycle(evaluation)]
@@ -55,7 +56,7 @@ fn function<L: BuiltInLabels>(
             if func == Func::Pow {
                 power(first, second)
             } else {
-                remainder(first, second)
+                rest_of(first, second)
             }
         }
     }
@@ -139,4 +140,21 @@ fn extreme_after<L: BuiltInLabels>(
         };
     }
     Ok(chosen)
+}
+
+/// The remainder of two whole numbers.
+#[cycle(evaluation)]
+pub fn remainder<L: BuiltInLabels>(
+    labels: &L,
+    state: &[i64],
+    parts: &[Node],
+) -> Result<i64, TraceFault>
+    ensures { result ≡ remainder_result (map stored_of (map (node_value (L.values labels.now) state.now) parts.now)) }
+{
+    let [first, second] = parts else {
+        return Ok(0);
+    };
+    let number = stored_in(labels, state, first)?;
+    let divisor = stored_in(labels, state, second)?;
+    whole_remainder(number, divisor)
 }

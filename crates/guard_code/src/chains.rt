@@ -1,16 +1,18 @@
-//! Evaluation of chains, comparisons, and `&` and `|`.
+//! Evaluation of chains, comparisons, quotients, and `&` and `|`.
 
 ghost use Rattle.std.specs.Prelude.{◌≡◌, map};
 ghost use Rattle.chain_model.specs.Values.{level_value, join};
-ghost use Rattle.guard_code.specs.Wholes.{truth_of, stored_of, linked_whole, wholes_result, compare_result, junction_result};
+ghost use Rattle.guard_code.specs.Wholes.{truth_of, stored_of, linked_whole, wholes_result, compare_result, quotient_value, junction_result};
 ghost use Rattle.guard_code.specs.Nodes.{node_value};
 
-use crate::evaluation::{stored_in, truth_in, value};
+use crate::evaluation::value;
+use crate::fronts::{stored_in, truth_in};
 use crate::labels::BuiltInLabels;
 use crate::nodes::Node;
 use crate::wholes::{compares, whole_result};
 use chain_model::{Op, TraceFault, Value};
-use chain_values::{both_result, left_result};
+use chain_values::{as_value, both_result, left_result};
+use smc_num::Frac;
 
 /// How the two parts of a comparison compare.
 #[cycle(evaluation)]
@@ -28,6 +30,23 @@ pub fn compare<L: BuiltInLabels>(
     let a = stored_in(labels, state, first)?;
     let b = stored_in(labels, state, second)?;
     Ok(compares(op, a, b))
+}
+
+/// A whole number over another.
+#[cycle(evaluation)]
+pub fn quotient<L: BuiltInLabels>(
+    labels: &L,
+    state: &[i64],
+    parts: &[Node],
+) -> Result<Value, TraceFault>
+    ensures { result ≡ quotient_value (map stored_of (map (node_value (L.values labels.now) state.now) parts.now)) }
+{
+    let [first, second] = parts else {
+        return Ok(Value::Bool(false));
+    };
+    let number = stored_in(labels, state, first)?;
+    let divisor = stored_in(labels, state, second)?;
+    as_value(Frac::new(number, divisor))
 }
 
 /// A chain of whole numbers, folded from the left.

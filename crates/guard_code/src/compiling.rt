@@ -1,6 +1,6 @@
 //! Compiles expressions.
 
-ghost use Rattle.std.specs.Prelude.{◌≡◌, IfOk};
+ghost use Rattle.std.specs.Prelude.{◌≡◌, IfOk, IfSome};
 ghost use Rattle.chain_model.specs.declared.values.LabelValues.{LabelValues};
 ghost use Rattle.chain_model.specs.States.{State};
 ghost use Rattle.chain_model.specs.Values.{variable_value};
@@ -11,8 +11,10 @@ ghost use Rattle.guard_code.specs.Means.{Always, Means, AllMean};
 
 use crate::calling::call_node;
 use crate::joining::chain_node;
+use crate::kinds::is_whole_literal;
 use crate::nodes::Node;
 use crate::plain_tests::Test;
+use crate::results::stored;
 use crate::signs::{minus_node, negation_node};
 use chain_model::{Form, Sort, Typed};
 use sqlite_items::{Boxed, Items};
@@ -29,8 +31,29 @@ fn variable(sort: Sort, number: u32) -> Node
     }
 }
 
-/// A conditional.
-fn conditional(
+/// The node of a conditional that picks one of two whole numbers by a plain test.
+fn plain_conditional(condition: &Node, first: &Node, second: &Node) -> Option<Node>
+    ensures { IfSome result (λ made. Always (λ labels state. node_value labels state made
+        ≡ choice_value (truth_of (node_value labels state condition.now)) (node_value labels state first.now) (node_value labels state second.now))) }
+{
+    let Node::Plain(test) = condition else {
+        return None;
+    };
+    let Node::Lit(a) = first else {
+        return None;
+    };
+    let Node::Lit(b) = second else {
+        return None;
+    };
+    if is_whole_literal(a) && is_whole_literal(b) {
+        Some(Node::PlainIf(*test, stored(a), stored(b)))
+    } else {
+        None
+    }
+}
+
+/// The node of a conditional that holds its parts.
+fn boxed_conditional(
     alloc: Global,
     condition: Node,
     first: Node,
@@ -43,6 +66,22 @@ fn conditional(
     let first = Boxed::new(alloc, first)?;
     let second = Boxed::new(alloc, second)?;
     Ok(Node::If(condition, first, second))
+}
+
+/// A conditional.
+fn conditional(
+    alloc: Global,
+    condition: Node,
+    first: Node,
+    second: Node,
+) -> Result<Node, AllocError>
+    ensures { IfOk result (λ made. Always (λ labels state. node_value labels state made
+        ≡ choice_value (truth_of (node_value labels state condition)) (node_value labels state first) (node_value labels state second))) }
+{
+    match plain_conditional(&condition, &first, &second) {
+        Some(made) => Ok(made),
+        None => boxed_conditional(alloc, condition, first, second),
+    }
 }
 
 /// The node of an expression.

@@ -1,21 +1,21 @@
-//! Evaluation of nodes: as a truth value, as a whole number, and as a value.
+//! Evaluation of nodes: as a value, and, of those with parts, as a truth value and as a whole number.
 
 ghost use Rattle.std.specs.Prelude.{◌≡◌};
 ghost use Rattle.chain_model.specs.Values.{deadlock_value};
 ghost use Rattle.guard_code.specs.Wholes.{truth_of, stored_of};
 ghost use Rattle.guard_code.specs.Nodes.{node_value};
 
-use crate::calls::{call, extreme};
-use crate::chains::{arithmetic, compare, junction, level};
+use crate::calls::{call, extreme, remainder};
+use crate::chains::{arithmetic, compare, junction, level, quotient};
+use crate::fronts::{stored_in, truth_in};
 use crate::labels::BuiltInLabels;
 use crate::nodes::Node;
-use crate::plain_tests::{all_hold, number_in, some_holds, test_holds};
+use crate::plain_tests::{all_hold, number_by, number_in, some_holds, test_holds};
 use crate::results::{
-    as_truth, as_whole, shifted_stored, shifted_value, stored, stored_of, stored_truth,
-    stored_whole, truth_of,
+    as_truth, as_whole, shifted_value, stored_of, stored_truth, stored_whole, truth_of,
 };
 use chain_model::{TraceFault, Value};
-use chain_values::{opposite, truth};
+use chain_values::opposite;
 
 /// The value of a node in a state, where the built-in labels say this.
 #[cycle(evaluation)]
@@ -27,6 +27,9 @@ pub fn value<L: BuiltInLabels>(labels: &L, state: &[i64], node: &Node) -> Result
         Node::Number(x) => as_whole(Ok(number_in(state, *x))),
         Node::Shifted(x, c) => shifted_value(number_in(state, *x), *c),
         Node::Plain(test) => Ok(Value::Bool(test_holds(state, test))),
+        Node::PlainIf(test, first, second) => {
+            as_whole(Ok(number_by(state, test, *first, *second)))
+        }
         Node::Every(tests) => Ok(Value::Bool(all_hold(state, tests.as_slice()))),
         Node::Any(tests) => Ok(Value::Bool(some_holds(state, tests.as_slice()))),
         Node::Compare(op, parts) => as_truth(compare(labels, state, *op, parts.as_slice())),
@@ -37,6 +40,8 @@ pub fn value<L: BuiltInLabels>(labels: &L, state: &[i64], node: &Node) -> Result
             ops.as_slice(),
         )),
         Node::Extreme(func, parts) => as_whole(extreme(labels, state, *func, parts.as_slice())),
+        Node::Remainder(parts) => as_whole(remainder(labels, state, parts.as_slice())),
+        Node::Quotient(parts) => quotient(labels, state, parts.as_slice()),
         Node::Junction(deciding, parts) => {
             as_truth(junction(labels, state, *deciding, parts.as_slice()))
         }
@@ -62,9 +67,9 @@ pub fn value<L: BuiltInLabels>(labels: &L, state: &[i64], node: &Node) -> Result
     }
 }
 
-/// What a node's value counts for as a truth value.
+/// What the value of a node with parts counts for as a truth value.
 #[cycle(evaluation)]
-pub fn truth_in<L: BuiltInLabels>(
+pub fn compound_truth<L: BuiltInLabels>(
     labels: &L,
     state: &[i64],
     node: &Node,
@@ -72,10 +77,6 @@ pub fn truth_in<L: BuiltInLabels>(
     ensures { result ≡ truth_of (node_value (L.values labels.now) state.now node.now) }
 {
     match node {
-        Node::Lit(value) => Ok(truth(value)),
-        Node::Plain(test) => Ok(test_holds(state, test)),
-        Node::Every(tests) => Ok(all_hold(state, tests.as_slice())),
-        Node::Any(tests) => Ok(some_holds(state, tests.as_slice())),
         Node::Compare(op, parts) => compare(labels, state, *op, parts.as_slice()),
         Node::Junction(deciding, parts) => junction(labels, state, *deciding, parts.as_slice()),
         Node::Not(part) => {
@@ -93,9 +94,9 @@ pub fn truth_in<L: BuiltInLabels>(
     }
 }
 
-/// How a node's value stands in a state.
+/// How the value of a node with parts stands in a state.
 #[cycle(evaluation)]
-pub fn stored_in<L: BuiltInLabels>(
+pub fn compound_number<L: BuiltInLabels>(
     labels: &L,
     state: &[i64],
     node: &Node,
@@ -103,10 +104,6 @@ pub fn stored_in<L: BuiltInLabels>(
     ensures { result ≡ stored_of (node_value (L.values labels.now) state.now node.now) }
 {
     match node {
-        Node::Lit(value) => Ok(stored(value)),
-        Node::Number(x) => stored_whole(Ok(number_in(state, *x))),
-        Node::Shifted(x, c) => shifted_stored(number_in(state, *x), *c),
-        Node::Plain(test) => stored_truth(Ok(test_holds(state, test))),
         Node::Every(tests) => stored_truth(Ok(all_hold(state, tests.as_slice()))),
         Node::Any(tests) => stored_truth(Ok(some_holds(state, tests.as_slice()))),
         Node::Compare(op, parts) => stored_truth(compare(labels, state, *op, parts.as_slice())),
@@ -114,6 +111,7 @@ pub fn stored_in<L: BuiltInLabels>(
             stored_truth(junction(labels, state, *deciding, parts.as_slice()))
         }
         Node::Extreme(func, parts) => stored_whole(extreme(labels, state, *func, parts.as_slice())),
+        Node::Remainder(parts) => stored_whole(remainder(labels, state, parts.as_slice())),
         Node::Arithmetic(parts, ops) => stored_whole(arithmetic(
             labels,
             state,

@@ -6,7 +6,7 @@ ghost use Rattle.std.specs.Option.{option_map_or};
 ghost use Rattle.guard_code.specs.Guards.{told_command, holds, guards_fault, is_single, is_part_of, some_enabled, is_possible, is_stuck, stuck_result};
 
 use crate::code::Command;
-use crate::evaluation::truth_in;
+use crate::fronts::truth_in;
 use crate::labels::NoLabels;
 use chain_model::TraceFault;
 use sqlite_items::Items;

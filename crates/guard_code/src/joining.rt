@@ -2,7 +2,7 @@
 
 ghost use Rattle.std.specs.Prelude.{◌≡◌, true, IfOk, IfSome};
 ghost use Rattle.guard_code.specs.Means.{Joins};
-ghost use Rattle.guard_code.specs.Joins.{FoldsTo, IsCompared, IsComparisonOf, IsTestOf, IsCalculated, IsDecided, IsJunctionOf, AreTests};
+ghost use Rattle.guard_code.specs.Joins.{FoldsTo, IsCompared, IsComparisonOf, IsTestOf, IsCalculated, IsQuotient, IsDecided, IsJunctionOf, AreTests};
 
 use crate::calculations::calculation;
 use crate::chains::level;
@@ -75,6 +75,22 @@ fn is_arithmetic_chain(parts: &[Node], ops: &[Op]) -> bool
     1 <= parts.len() && all_arithmetic(ops) && all_whole(parts)
 }
 
+/// Whether a chain is a whole number over another.
+fn is_quotient(parts: &[Node], ops: &[Op]) -> bool
+    ensures { result ≡ true → IsQuotient parts.now ops.now }
+{
+    let [op] = ops else {
+        return false;
+    };
+    if parts.len() != 2 {
+        return false;
+    }
+    match *op {
+        Op::Div => all_whole(parts),
+        _ => false,
+    }
+}
+
 /// Whether a chain is one of truth values that parts of one truth value decide.
 fn is_junction_chain(deciding: bool, parts: &[Node], ops: &[Op]) -> bool
     ensures { result ≡ true → IsDecided deciding parts.now ops.now }
@@ -117,6 +133,7 @@ fn chain_by_shape(alloc: Global, parts: Items<Node>, ops: &[Op]) -> Result<Node,
 {
     let view = parts.as_slice();
     let calculated = is_arithmetic_chain(view, ops);
+    let divided = is_quotient(view, ops);
     let all = is_junction_chain(false, view, ops);
     let some = is_junction_chain(true, view, ops);
     match comparison_of(view, ops) {
@@ -129,6 +146,8 @@ fn chain_by_shape(alloc: Global, parts: Items<Node>, ops: &[Op]) -> Result<Node,
         junction(alloc, true, parts)
     } else if calculated {
         calculation(alloc, parts, ops)
+    } else if divided {
+        Ok(Node::Quotient(parts))
     } else {
         Ok(Node::Level(parts, Items::from_slice(alloc, ops)?))
     }

@@ -11,7 +11,7 @@ use crate::shapes::{is_arithmetic, is_junction};
 use chain_model::{Op, Value};
 
 /// Whether a value is a whole number.
-fn is_whole_literal(value: &Value) -> bool
+pub fn is_whole_literal(value: &Value) -> bool
     ensures { IsTrue result → Ok value.now ≡ as_whole (stored_of (Ok value.now)) }
 {
     match value {
@@ -29,7 +29,16 @@ fn is_whole(node: &Node) -> bool
         Node::Shifted(_variable, _by) => true,
         Node::Arithmetic(_parts, _ops) => true,
         Node::Extreme(_func, _parts) => true,
+        Node::Remainder(_parts) => true,
+        Node::PlainIf(_test, _first, _second) => true,
         Node::Lit(value) => is_whole_literal(value),
+        Node::If(_condition, first, second) => {
+            if is_whole(first.get()) {
+                is_whole(second.get())
+            } else {
+                false
+            }
+        }
         _ => false,
     }
 }

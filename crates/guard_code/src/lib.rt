@@ -8,6 +8,7 @@ mod chains;
 mod code;
 mod compiling;
 mod evaluation;
+mod fronts;
 mod guards;
 mod joining;
 mod kinds;

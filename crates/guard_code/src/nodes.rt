@@ -12,6 +12,8 @@ pub enum Node {
     /// A whole number: the value of a variable and a constant, added.
     Shifted(u32, i64),
     Plain(Test),
+    /// One of two whole numbers: the first where the test holds, else the second.
+    PlainIf(Test, i64, i64),
     /// Tests that all hold.
     Every(Items<Test>),
     /// Tests of which some holds.
@@ -22,6 +24,10 @@ pub enum Node {
     Arithmetic(Items<Node>, Items<Op>),
     /// The least or the greatest of whole numbers, by the function.
     Extreme(Func, Items<Node>),
+    /// The remainder of two whole numbers.
+    Remainder(Items<Node>),
+    /// A whole number over another.
+    Quotient(Items<Node>),
     /// Parts that are read up to the first with this truth value: `&` where that is `false`, `|` where it is `true`.
     Junction(bool, Items<Node>),
     Not(Boxed<Node>),

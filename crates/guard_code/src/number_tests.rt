@@ -2,15 +2,15 @@
 
 use crate::agreement::{Gives, MOST, OUT_OF_LIMIT, OUTSIDE, Row, ZERO_DIVISOR, agrees};
 use crate::compiling::node_of;
-use crate::evaluation::stored_in;
 use crate::fixtures::{ADD, DIV, EQ, MUL, Piece, SUB, nested};
+use crate::fronts::stored_in;
 use crate::labels::NoLabels;
 use Gives::Number;
 use Piece::{B, Call, Chain, If, Minus, N, Q, X};
 use chain_model::{Func, Op};
 use std::test::Fail;
 
-static TABLE: [Row; 28] = [
+static TABLE: [Row; 42] = [
     (&[X(0), N(1), ADD], [3, 2, 1], Number(4, 1)),
     (&[X(0), N(1), SUB], [3, 2, 1], Number(2, 1)),
     (&[N(2), X(0), SUB], [3, 2, 1], Number(-1, 1)),
@@ -90,6 +90,58 @@ static TABLE: [Row; 28] = [
         &[N(5), X(0), N(1), ADD, Call(Func::Min, 2)],
         [MOST, 2, 1],
         OUT_OF_LIMIT,
+    ),
+    (&[X(0), X(1), Call(Func::Mod, 2)], [-3, 2, 1], Number(1, 1)),
+    (&[X(0), X(1), Call(Func::Mod, 2)], [3, 0, 1], ZERO_DIVISOR),
+    (&[X(0), X(1), Call(Func::Mod, 2)], [3, -2, 1], OUTSIDE),
+    (
+        &[X(0), N(1), ADD, N(5), Call(Func::Mod, 2), X(1), ADD],
+        [4, 2, 1],
+        Number(2, 1),
+    ),
+    (
+        &[X(0), N(1), ADD, X(1), Call(Func::Mod, 2)],
+        [MOST, 0, 1],
+        OUT_OF_LIMIT,
+    ),
+    (&[X(0), X(1), DIV], [6, 4, 1], Number(3, 2)),
+    (&[X(0), X(1), DIV], [3, -6, 1], Number(-1, 2)),
+    (&[X(0), X(0), X(1), ADD, DIV], [1, 2, 1], Number(1, 3)),
+    (&[X(0), X(0), X(1), ADD, DIV], [MOST, 1, 1], OUT_OF_LIMIT),
+    (
+        &[
+            X(0),
+            X(1),
+            EQ,
+            N(1),
+            N(0),
+            If,
+            X(1),
+            N(2),
+            EQ,
+            N(1),
+            N(0),
+            If,
+            ADD,
+        ],
+        [2, 2, 1],
+        Number(2, 1),
+    ),
+    (&[X(0), X(1), EQ, N(4), N(-7), If], [3, 2, 1], Number(-7, 1)),
+    (
+        &[X(0), X(1), EQ, Q(1, 2), N(0), If],
+        [2, 2, 1],
+        Number(1, 2),
+    ),
+    (
+        &[B(2), X(0), X(1), N(1), ADD, If, X(1), MUL],
+        [5, 3, 0],
+        Number(12, 1),
+    ),
+    (
+        &[B(2), X(0), Q(1, 2), If, X(1), MUL],
+        [5, 3, 0],
+        Number(3, 2),
     ),
 ];
 

@@ -1,6 +1,6 @@
 //! Plain tests of variables.
 
-ghost use Rattle.std.specs.Prelude.{◌≡◌};
+ghost use Rattle.std.specs.Prelude.{◌≡◌, if◌then◌else◌};
 ghost use Rattle.std.specs.List.{list_all, list_any};
 ghost use Rattle.guard_code.specs.Tests.{number_in, test_holds};
 
@@ -47,6 +47,18 @@ pub fn test_holds(state: &[i64], test: &Test) -> bool
         Test::Different(x, y) => number_in(state, *x) != number_in(state, *y),
         Test::Below(x, y) => number_in(state, *x) < number_in(state, *y),
         Test::AtMost(x, y) => number_in(state, *x) <= number_in(state, *y),
+    }
+}
+
+/// One of two whole numbers, by a test.
+#[inline(always)]
+pub fn number_by(state: &[i64], test: &Test, first: i64, second: i64) -> i64
+    ensures { result ≡ (if test_holds state.now test.now then first else second) }
+{
+    if test_holds(state, test) {
+        first
+    } else {
+        second
     }
 }
 

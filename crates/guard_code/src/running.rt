@@ -8,7 +8,8 @@ ghost use Rattle.guard_code.specs.Wholes.{truth_of};
 ghost use Rattle.guard_code.specs.Codes.{IsCode, values_of, expressions_of, formula_of};
 
 use crate::code::Code;
-use crate::evaluation::{truth_in, value};
+use crate::evaluation::value;
+use crate::fronts::truth_in;
 use crate::labels::NoLabels;
 use crate::state_labels::StateLabels;
 use chain_model::{TraceFault, Value};

@@ -5,7 +5,8 @@ ghost use Rattle.chain_model.specs.Choices.{no_labels};
 ghost use Rattle.guard_code.specs.Wholes.{truth_of, stored_of};
 ghost use Rattle.guard_code.specs.Nodes.{node_value};
 
-use crate::evaluation::{stored_in, truth_in, value};
+use crate::evaluation::value;
+use crate::fronts::{stored_in, truth_in};
 use crate::labels::NoLabels;
 use crate::nodes::Node;
 use chain_model::{TraceFault, Value};

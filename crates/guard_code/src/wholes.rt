@@ -1,9 +1,11 @@
 //! Whole numbers within the limits.
 
 ghost use Rattle.std.specs.Prelude.{◌≡◌, ◌+ℤ◌, ◌-ℤ◌, ◌*ℤ◌};
-ghost use Rattle.guard_code.specs.Wholes.{limited, whole_result, chosen_whole, compares};
+ghost use Rattle.guard_code.specs.Wholes.{limited, whole_result, chosen_whole, whole_remainder, compares};
 
 use chain_model::{Func, Op, TraceFault};
+use chain_values::as_fault;
+use smc_num::modulo;
 
 /// One more than the greatest whole number.
 const LIMIT: i64 = 1 << 62;
@@ -73,6 +75,17 @@ pub fn chosen_whole(func: Func, a: i64, b: i64) -> i64
     match func {
         Func::Max => { if a < b { b } else { a } }
         _ => { if b < a { b } else { a } }
+    }
+}
+
+/// The remainder of two whole numbers.
+#[inline(always)]
+pub fn whole_remainder(number: i64, divisor: i64) -> Result<i64, TraceFault>
+    ensures { result ≡ whole_remainder number divisor }
+{
+    match modulo(number, divisor) {
+        Ok(rest) => Ok(rest),
+        Err(fault) => Err(as_fault(fault)),
     }
 }
 

@@ -1,8 +1,8 @@
 -- A chain is what its parts make of it.
 use Rattle.std.proofs.Common.{List, true, false, subst}
 use Rattle.guard_code.specs.declared.nodes.Node.{Node}
-use Rattle.guard_code.specs.Joins.{IsCompared, IsCalculated, IsDecided}
-use Rattle.guard_code.proofs.JoinLemmas.{joins_compared, joins_calculated_ok, joins_decided_ok}
+use Rattle.guard_code.specs.Joins.{IsCompared, IsCalculated, IsQuotient, IsDecided}
+use Rattle.guard_code.proofs.JoinLemmas.{joins_compared, joins_calculated_ok, joins_quotient, joins_decided_ok}
 use Rattle.guard_code.proofs.joining.chain_by_shape.Goals as goal
 
 pub returns-in-Some : goal.returns-in-Some
@@ -24,3 +24,8 @@ pub returns-then-calculated : goal.returns-then-calculated
 returns-then-calculated c =
     joins_calculated_ok c.calculation.result c.args.parts c.args.ops.now
     (subst (λ (ps : List Node). IsCalculated ps c.args.ops.now) c.as_slice-view.ensures (c.is_arithmetic_chain-calculated.ensures c.if-calculated.true)) c.calculation.ensures
+
+pub returns-then-divided : goal.returns-then-divided
+returns-then-divided c =
+    joins_quotient c.args.parts c.args.ops.now
+    (subst (λ (ps : List Node). IsQuotient ps c.args.ops.now) c.as_slice-view.ensures (c.is_quotient-divided.ensures c.if-divided.true))
