@@ -20,11 +20,11 @@ pub record Decoded (p : ℕ → Bool) (lists : List (List ℕ)) (number place le
   pub found : slice_get (joint_lists p (drop place lists)) rest ≡ Some (drop place (take (length lists) chosen))
 
 -- the lists from a place on are the list there and the further ones
-record Cut (p : ℕ → Bool) (lists : List (List ℕ)) (place : ℕ) (list : List ℕ) : Type 0 where
-  is : joint_lists p (drop place lists) ≡ combinations (filter p list ∷ map (filter p) (drop (place + 1) lists))
-  size : length (joint_lists p (drop place lists)) ≡ length (filter p list) * length (joint_lists p (drop (place + 1) lists))
+pub record Cut (p : ℕ → Bool) (lists : List (List ℕ)) (place : ℕ) (list : List ℕ) : Type 0 where
+  pub is : joint_lists p (drop place lists) ≡ combinations (filter p list ∷ map (filter p) (drop (place + 1) lists))
+  pub size : length (joint_lists p (drop place lists)) ≡ length (filter p list) * length (joint_lists p (drop (place + 1) lists))
 
-cut_at : (p : ℕ → Bool) (lists : List (List ℕ)) (place : ℕ) (list : List ℕ) → place < length lists → list ≡ get_or lists place list → Cut p lists place list
+pub cut_at : (p : ℕ → Bool) (lists : List (List ℕ)) (place : ℕ) (list : List ℕ) → place < length lists → list ≡ get_or lists place list → Cut p lists place list
 cut_at p lists place list lt is =
     let cut = at_drop_more (joint_lists p) lists place list lt ∙ ap (λ l. joint_lists p (l ∷ drop (place + 1) lists)) (sym is) in
     record { is = cut; size = ap length cut ∙ many (filter p list) (map (filter p) (drop (place + 1) lists)) }
@@ -42,7 +42,7 @@ digit_below : (q c n rest : ℕ) → q < c → rest < n → q * n + rest < c * n
 digit_below q c n rest lt below = let some : q * n + n ≤ c * n = grind arith in omega (arith, some, below)
 
 -- a command is written before those that stand
-written : (chosen : List ℕ) (place n x : ℕ) → place < n → n ≤ length chosen → drop place (take n (set chosen place x)) ≡ x ∷ drop (place + 1) (take n chosen)
+pub written : (chosen : List ℕ) (place n x : ℕ) → place < n → n ≤ length chosen → drop place (take n (set chosen place x)) ≡ x ∷ drop (place + 1) (take n chosen)
 written [] place n x lt long = absurd (omega (arith, lt, long))
 written (y ∷ ys) place zero x lt long = absurd (omega (arith, lt))
 written (y ∷ ys) zero (suc n) x lt long = (let one : 1 ≡ 0 + 1 = omega arith in ap (λ k. x ∷ drop k (y ∷ take n ys)) one)

@@ -2,6 +2,7 @@ pub mod FilterLemmas
 pub mod CountLemmas
 pub mod DecodeLemmas
 pub mod PlaceLemmas
+pub mod FirstLemmas
 pub mod PartitionLemmas
 pub mod SideLemmas
 pub mod WeightLemmas

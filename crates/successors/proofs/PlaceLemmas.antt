@@ -39,6 +39,21 @@ placed_further f xs i left many x whole lt is so counted more =
       same = sym (get_back (f x) (flat_map f (drop (i + 1) xs)) (left - many) left (omega (arith, exact, more))) ∙ sym (ap (λ ls. slice_get ls left) cut.is) ∙ so.same;
     }
 
+-- an item without a list is passed over
+pub empty : {B : Type 0} (ys : List B) → length ys ≡ 0 → ys ≡ []
+empty [] none = refl
+empty (y ∷ ys) none = absurd (omega (arith, none))
+
+pub none_further : {A B : Type 0} (f : A → List B) (xs : List A) (i : ℕ) (x : A) → i < length xs → x ≡ get_or xs i x → length (f x) ≡ 0
+    → flat_map f (drop i xs) ≡ flat_map f xs → flat_map f (drop (i + 1) xs) ≡ flat_map f xs
+none_further f xs i x lt is none so =
+    sym (ap (λ ys. ys ++ flat_map f (drop (i + 1) xs)) (empty (f x) none)) ∙ sym (cut_at f xs i x lt is).is ∙ so
+
+-- the first item with a list
+pub first_further : {A B : Type 0} (f : A → List B) (xs : List A) (i : ℕ) (x : A) → i < length xs → x ≡ get_or xs i x
+    → flat_map f (drop i xs) ≡ flat_map f xs → flat_map f xs ≡ f x ++ flat_map f (drop (i + 1) xs)
+first_further f xs i x lt is so = sym so ∙ (cut_at f xs i x lt is).is
+
 -- one command alone
 written_first : (chosen : List ℕ) (x : ℕ) → 1 ≤ length chosen → take 1 (set chosen 0 x) ≡ x ∷ []
 written_first [] x some = absurd (omega (arith, some))

@@ -1,5 +1,5 @@
 -- What a command's weights say of the branch that it takes.
-use Rattle.std.specs.Prelude.{◌≡◌, ◌==◌, ℕ, ◌<◌, ◌^◌, List, length, not, nat_lt, sum, Result, Ok}
+use Rattle.std.specs.Prelude.{◌≡◌, ◌==◌, ℕ, ◌<◌, ◌^◌, List, [], ◌∷◌, length, not, nat_lt, sum, Result, Ok}
 use Rattle.smc_num.specs.Fraction.{Fraction}
 use Rattle.chain_model.specs.declared.outcome.TraceFault.{TraceFault}
 use Rattle.chain_model.specs.declared.outcome.TraceFault.TheVariants.{Weights, Denominator}
@@ -56,5 +56,6 @@ pub record HasWeights (chain : Chain) (command : ℕ) (nodes : List Node) : Type
 -- what is known of the weights of a command
 abbrev pub IsWeighing : Chain → ℕ → Weighing → Type 0
 IsWeighing chain command w.Certain = IsCertain chain command
+IsWeighing chain command (w.Coin threshold) = HasThresholds chain command (threshold ∷ [])
 IsWeighing chain command (w.Fixed thresholds) = HasThresholds chain command thresholds
 IsWeighing chain command (w.Varying nodes) = HasWeights chain command nodes

@@ -1,18 +1,18 @@
-//! How many choices there are.
+//! How many choices actions have.
 
 ghost use Rattle.std.specs.Prelude.{◌≡◌, ◌+◌, ◌*◌, ◌<◌, ◌≤◌, ◌^◌, min, length, flat_map};
 ghost use Rattle.successors.specs.Enabled.{is_enabled};
-ghost use Rattle.successors.specs.Partition.{joint_lists, choice_lists};
+ghost use Rattle.successors.specs.Partition.{joint_lists};
 
 use crate::lanes::count_enabled;
 use sqlite_items::Items;
 
 /// One more than the most choices that a state may have.
-const TOO_MANY: u64 = (1 << 48) + 1;
+pub const TOO_MANY: u64 = (1 << 48) + 1;
 
 /// A product, up to one more than the most choices.
 #[inline(always)]
-fn capped_product(a: u64, b: u64) -> u64
+pub fn capped_product(a: u64, b: u64) -> u64
     ensures { result ≡ min (a * b) (2 ^ 48 + 1) }
 {
     a.saturating_mul(b).min(TOO_MANY)
@@ -32,7 +32,7 @@ pub fn count_joint(enabled: &[u8], lane: u32, lists: &[Items<u32>]) -> u64
 }
 
 /// How many choices actions have, up to one more than the most.
-fn count_actions(enabled: &[u8], lane: u32, actions: &[Items<Items<u32>>]) -> u64
+pub fn count_actions(enabled: &[u8], lane: u32, actions: &[Items<Items<u32>>]) -> u64
     requires { lane < 8 }
     ensures { result ≡ min (length (flat_map (joint_lists (is_enabled lane enabled.now)) actions.now)) (2 ^ 48 + 1) }
 {
@@ -41,18 +41,4 @@ fn count_actions(enabled: &[u8], lane: u32, actions: &[Items<Items<u32>>]) -> u6
         total = (total + count_joint(enabled, lane, lists.as_slice())).min(TOO_MANY);
     }
     total
-}
-
-/// How many choices there are, up to one more than the most.
-pub fn count_choices(
-    enabled: &[u8],
-    lane: u32,
-    singles: &[u32],
-    actions: &[Items<Items<u32>>],
-) -> u64
-    requires { lane < 8 }
-    ensures { result ≡ min (length (choice_lists (is_enabled lane enabled.now) singles.now actions.now)) (2 ^ 48 + 1) }
-{
-    let alone = count_enabled(enabled, lane, singles).min(TOO_MANY);
-    (alone + count_actions(enabled, lane, actions)).min(TOO_MANY)
 }

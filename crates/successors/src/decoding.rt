@@ -54,13 +54,15 @@ fn write_action(
     unreachable!()
 }
 
-/// Writes the commands of the choice of a number, and says how many they are.
+/// Writes the commands of the choice of a number, where those of the first choice stand, which are so many; and says how
+/// many they are.
 pub fn write_choice(
     enabled: &[u8],
     lane: u32,
     singles: &[u32],
     actions: &[Items<Items<u32>>],
     number: u64,
+    size: usize,
     chosen: &mut [u32],
 ) -> usize
     requires lane { lane < 8 }
@@ -68,10 +70,16 @@ pub fn write_choice(
     requires few { length (choice_lists (is_enabled lane enabled.now) singles.now actions.now) ≤ 2 ^ 48 }
     requires some { 1 ≤ length chosen.old }
     requires room { All (λ lists. length lists ≤ length chosen.old) actions.now }
+    requires first { slice_get (choice_lists (is_enabled lane enabled.now) singles.now actions.now) 0
+        ≡ Some (take size chosen.old) }
+    requires size { size ≤ length chosen.old }
     ensures within { result ≤ length chosen.old }
     ensures value { slice_get (choice_lists (is_enabled lane enabled.now) singles.now actions.now) number
         ≡ Some (take result chosen.new) }
 {
+    if number == 0 {
+        return size;
+    }
     let alone = count_enabled(enabled, lane, singles);
     if number < alone {
         chosen[0] = nth_enabled(enabled, lane, singles, number);

@@ -2,9 +2,10 @@
 
 ghost use Rattle.std.specs.Prelude.{◌≡◌, ◌==◌, ◌+◌, ◌*◌, ◌/◌, ◌<◌, ◌≤◌, ◌^◌, ℕ, true, All, IfOk, IfSome, length, sum};
 ghost use Rattle.trace_streams.specs.Pick.{pick_of, first_draw};
+ghost use Rattle.chain_model.specs.declared.chain.Chain.{Chain};
 ghost use Rattle.chain_model.specs.Step.{denominator_of, first_above, running_sums};
 ghost use Rattle.trace_meaning.specs.Weights.{IsWeight, numerators_over};
-ghost use Rattle.successors.specs.Weighing.{IsFixedWeight, AreFixedWeights, HasWeights, IsWeighing};
+ghost use Rattle.successors.specs.Weighing.{IsFixedWeight, AreFixedWeights, HasThresholds, HasWeights, IsWeighing};
 
 use crate::weighing::Weights;
 use chain_model::Chain;
@@ -75,6 +76,16 @@ fn thresholds(alloc: Global, weights: &[Frac], den: u64) -> Result<Items<u64>, A
     Ok(thresholds)
 }
 
+/// How a branch is found by thresholds: one of two by a single comparison.
+fn by_thresholds(thresholds: Items<u64>) -> Weights
+    ensures { (chain : Chain) (command : ℕ) → HasThresholds chain command thresholds → IsWeighing chain command result }
+{
+    match thresholds.as_slice() {
+        [threshold] => Weights::Coin(*threshold),
+        _ => Weights::Fixed(thresholds),
+    }
+}
+
 /// How a branch is found by weights that are the same in every state.
 fn fixed(
     alloc: Global,
@@ -96,7 +107,7 @@ fn fixed(
     if weights.len() == 1 {
         return Ok(Weights::Certain);
     }
-    Ok(Weights::Fixed(thresholds(alloc, weights, den)?))
+    Ok(by_thresholds(thresholds(alloc, weights, den)?))
 }
 
 /// How the branch of a command is found, by the nodes of its weights.

@@ -29,6 +29,22 @@ pub fn count_enabled(enabled: &[u8], lane: u32, numbers: &[u32]) -> u64
     count
 }
 
+/// How many of these commands are enabled, and the first of them where there is one.
+#[inline(always)]
+pub fn first_enabled(enabled: &[u8], lane: u32, numbers: &[u32]) -> (u64, Option<u32>)
+    requires { lane < 8 }
+    ensures count { result.0 ≡ length (filter (is_enabled lane enabled.now) numbers.now) }
+    ensures first { result.1 ≡ slice_get (filter (is_enabled lane enabled.now) numbers.now) 0 }
+{
+    for (index, number) in numbers.iter().enumerate() {
+        if is_enabled(enabled, lane, *number) {
+            let others = count_enabled(enabled, lane, &numbers[index + 1..]);
+            return (1 + others, Some(*number));
+        }
+    }
+    (0, None)
+}
+
 /// The enabled command of this index among these.
 pub fn nth_enabled(enabled: &[u8], lane: u32, numbers: &[u32], index: u64) -> u32
     requires lane { lane < 8 }

@@ -1,9 +1,11 @@
 //! Steps of a trace, fast: choices are counted and found by the commands' numbers, and no step takes memory.
 #![tactic(auto)]
 
+mod assigning;
 mod commands;
 mod counting;
 mod decoding;
+mod first;
 mod fixed;
 mod guards;
 mod lanes;

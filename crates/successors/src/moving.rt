@@ -1,6 +1,6 @@
 //! A move from a state: a choice is drawn, and then the branches of its commands, whose assignments are made.
 
-ghost use Rattle.std.specs.Prelude.{◌≡◌, ◌+◌, ◌<◌, ◌≤◌, ◌^◌, ◌↔◌, [], All, OnErr, Ok, length, take};
+ghost use Rattle.std.specs.Prelude.{◌≡◌, ◌+◌, ◌<◌, ◌≤◌, ◌^◌, ◌↔◌, [], All, OnErr, Ok, Some, length, slice_get, take};
 ghost use Rattle.trace_streams.specs.Draws.{draw_at};
 ghost use Rattle.chain_model.specs.States.{IsState};
 ghost use Rattle.chain_model.specs.Choices.{choices_of};
@@ -12,11 +12,12 @@ ghost use Rattle.successors.specs.Commands.{AreCommands};
 ghost use Rattle.successors.specs.Steppers.{IsPlan, IsRoom};
 ghost use Rattle.successors.specs.Moves.{next_of, came, commands_taken, after_commands};
 
+use crate::assigning::assign_choice;
 use crate::commands::Command;
-use crate::counting::count_choices;
 use crate::decoding::write_choice;
+use crate::first::first_choice;
 use crate::plan::{Plan, Room};
-use crate::taking::{assign_all, write_branches};
+use crate::taking::write_branches;
 use chain_model::{Chain, TraceFault};
 use smc_num::Frac;
 use trace_meaning::drawn_number;
@@ -29,7 +30,8 @@ pub enum Moved {
     Stayed,
 }
 
-/// Draws a choice and writes its commands, and says how many they are.
+/// Draws a choice and writes its commands, where those of the first choice stand, which are so many; and says how many
+/// they are.
 fn choose(
     plan: &Plan,
     chain: &Chain,
@@ -37,6 +39,7 @@ fn choose(
     enabled: &[u8],
     lane: u32,
     count: u64,
+    size: usize,
     chosen: &mut [u32],
     draws: &mut Draws,
 ) -> usize
@@ -47,6 +50,9 @@ fn choose(
         ≡ length (choice_lists (is_enabled lane enabled.now) plan.now.partition.singles plan.now.partition.actions) }
     requires some { 0 < count }
     requires few { count ≤ 2 ^ 48 }
+    requires first { slice_get (choice_lists (is_enabled lane enabled.now) plan.now.partition.singles plan.now.partition.actions) 0
+        ≡ Some (take size chosen.old) }
+    requires size { size ≤ length chosen.old }
     requires room { 1 ≤ length chosen.old }
     requires wide { All (λ lists. length lists ≤ length chosen.old) plan.now.partition.actions }
     requires place { draws.old.place < 2 ^ 62 }
@@ -63,6 +69,7 @@ fn choose(
         plan.partition.singles.as_slice(),
         plan.partition.actions.as_slice(),
         number,
+        size,
         chosen,
     )
 }
@@ -94,29 +101,27 @@ fn take_commands(
         Ok(()) => {}
         Err(fault) => return Err(fault),
     }
-    next.copy_from_slice(state);
-    match assign_all(
+    match assign_choice(
         chain,
         commands,
         chosen,
         &branches[..chosen.len()],
-        state,
         next,
+        state,
     ) {
-        Ok(()) => {}
-        Err(fault) => return Err(fault),
+        Ok(()) => Ok(()),
+        Err(fault) => Err(fault),
     }
-    state.copy_from_slice(next);
-    Ok(())
 }
 
-/// Draws a choice, and takes it.
+/// Draws a choice, where the commands of the first stand, which are so many, and takes it.
 fn take_choice(
     plan: &Plan,
     chain: &Chain,
     enabled: &[u8],
     lane: u32,
     count: u64,
+    size: usize,
     room: &mut Room,
     state: &mut [i64],
     draws: &mut Draws,
@@ -130,6 +135,9 @@ fn take_choice(
         ≡ length (choice_lists (is_enabled lane enabled.now) plan.now.partition.singles plan.now.partition.actions) }
     requires some { 0 < count }
     requires few { count ≤ 2 ^ 48 }
+    requires first { slice_get (choice_lists (is_enabled lane enabled.now) plan.now.partition.singles plan.now.partition.actions) 0
+        ≡ Some (take size room.old.chosen.items) }
+    requires size { size ≤ length room.old.chosen.items }
     requires place { draws.old.place + 65 ≤ 2 ^ 62 }
     ensures step { came result state.new draws.new.place
         ≡ next_of chain.now (draw_at draws.old.seed draws.old.trace)
@@ -147,6 +155,7 @@ fn take_choice(
         enabled,
         lane,
         count,
+        size,
         &mut room.chosen,
         draws,
     );
@@ -188,11 +197,12 @@ fn try_move(
     ensures stream { draws.new ≡ record draws.old { place = draws.new.place } }
     ensures room { IsRoom chain.now plan.now room.new }
 {
-    let count = count_choices(
+    let (count, size) = first_choice(
         enabled,
         lane,
         plan.partition.singles.as_slice(),
         plan.partition.actions.as_slice(),
+        &mut room.chosen,
     );
     if count > 1 << 48 {
         return Err(TraceFault::Choices);
@@ -200,7 +210,7 @@ fn try_move(
     if count == 0 {
         return Ok(Moved::Stayed);
     }
-    match take_choice(plan, chain, enabled, lane, count, room, state, draws) {
+    match take_choice(plan, chain, enabled, lane, count, size, room, state, draws) {
         Ok(()) => Ok(Moved::Taken),
         Err(fault) => Err(fault),
     }

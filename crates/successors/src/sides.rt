@@ -121,7 +121,7 @@ pub fn sides(alloc: Global, chain: &Chain, sets: &[(u32, Typed)]) -> Result<Item
 
 /// What a side assigns: a variable's number, and a value within its range.
 #[inline(always)]
-fn assigned(side: &Side, state: &[i64]) -> Result<(u32, i64), TraceFault>
+pub fn assigned(side: &Side, state: &[i64]) -> Result<(u32, i64), TraceFault>
     ensures { result ≡ assigned_by state.now side.now }
 {
     match side {
@@ -146,7 +146,7 @@ fn assigned(side: &Side, state: &[i64]) -> Result<(u32, i64), TraceFault>
 
 /// Writes a value of a variable.
 #[inline(always)]
-fn write(copy: &mut [i64], variable: u32, value: i64)
+pub fn write(copy: &mut [i64], variable: u32, value: i64)
     ensures { copy.new ≡ slice_set copy.old variable value }
 {
     if (variable as usize) < copy.len() {

@@ -77,7 +77,7 @@ pub fn write_branches(
 
 /// The right sides of a command's branch.
 #[inline(always)]
-fn sides_taken<'a>(
+pub fn sides_taken<'a>(
     chain: &Chain,
     commands: &'a [Command],
     command: u32,

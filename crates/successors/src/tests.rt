@@ -276,10 +276,14 @@ fn step_by_bits(
     }
 }
 
-/// Whether a step of the five commands gives what a row says, both ways.
-fn is_joint(alloc: Global, row: &(u64, (i64, i64), u64)) -> Result<bool, AllocError> {
+/// Whether a step of these commands gives what a row says, both ways.
+fn is_joint(
+    alloc: Global,
+    commands: &[Command],
+    row: &(u64, (i64, i64), u64),
+) -> Result<bool, AllocError> {
     let (place, gives, after) = *row;
-    match job(alloc, &[1, 2, 0], &[0, 1], &FIVE)? {
+    match job(alloc, &[1, 2, 0], &[0, 1], commands)? {
         Some(job) => Ok(
             step_from(alloc, &job, place)? == (Ok(Moved::Taken), gives, after)
                 && step_by_bits(alloc, &job, place)? == Some((gives, after)),
@@ -291,8 +295,56 @@ fn is_joint(alloc: Global, row: &(u64, (i64, i64), u64)) -> Result<bool, AllocEr
 #[test]
 fn a_choice_is_drawn_and_read_in_the_old_state(rt: HostRuntime) -> Result<(), Fail> {
     for row in &JOINT {
-        assert!(rt; is_joint(rt.alloc(), row)?);
+        assert!(rt; is_joint(rt.alloc(), &FIVE, row)?);
     }
+    Ok(())
+}
+
+/// Two modules with two commands each of one action, one of which is enabled where the variables are 1 and 2.
+static ONE: [Command; 4] = [
+    Command {
+        action: Some(0),
+        guard: Tree::Is(0, 0),
+        first: Branch {
+            weight: Tree::Number(1, 1),
+            set: Some((0, Tree::Number(3, 1))),
+        },
+        ..STAYS
+    },
+    Command {
+        action: Some(0),
+        guard: Tree::Is(0, 1),
+        first: Branch {
+            weight: Tree::Number(1, 1),
+            set: Some((0, Tree::Var(1))),
+        },
+        ..STAYS
+    },
+    Command {
+        module: 1,
+        action: Some(0),
+        guard: Tree::Is(1, 2),
+        first: Branch {
+            weight: Tree::Number(1, 1),
+            set: Some((1, Tree::Var(0))),
+        },
+        ..STAYS
+    },
+    Command {
+        module: 1,
+        action: Some(0),
+        guard: Tree::Is(1, 3),
+        first: Branch {
+            weight: Tree::Number(1, 1),
+            set: Some((1, Tree::Number(3, 1))),
+        },
+        ..STAYS
+    },
+];
+
+#[test]
+fn one_choice_is_taken_without_a_draw(rt: HostRuntime) -> Result<(), Fail> {
+    assert!(rt; is_joint(rt.alloc(), &ONE, &(1, (2, 1), 1))?);
     Ok(())
 }
 

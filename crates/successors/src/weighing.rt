@@ -1,6 +1,6 @@
 //! The branch that a command takes, by its weights.
 
-ghost use Rattle.std.specs.Prelude.{◌≡◌, ◌+◌, ◌<◌, ◌≤◌, ◌^◌, All, IfOk, MatchResult, OnOk, OnErr, Ok, Err, length, take};
+ghost use Rattle.std.specs.Prelude.{◌≡◌, ◌+◌, ◌<◌, ◌≤◌, ◌^◌, [], ◌∷◌, All, IfOk, MatchResult, OnOk, OnErr, Ok, Err, length, take};
 ghost use Rattle.trace_streams.specs.Draws.{draw_at};
 ghost use Rattle.chain_model.specs.Step.{branch_of, command_draws, draws_for, first_above};
 ghost use Rattle.guard_code.specs.Tests.{IsSmall};
@@ -19,6 +19,8 @@ use trace_streams::Draws;
 pub enum Weights {
     /// There is one branch, and its weight is 1.
     Certain,
+    /// There are two branches, whose weights are the same in every state: the first draw that takes the second.
+    Coin(u64),
     /// The weights are the same in every state: for each branch but the last the first draw that takes a later one.
     Fixed(Items<u64>),
     /// The weights are evaluated.
@@ -36,6 +38,14 @@ fn index_above(draw: u64, thresholds: &[u64]) -> usize
         }
     }
     thresholds.len()
+}
+
+/// The second branch for draws from the threshold on, and the first for those below it.
+#[inline(always)]
+fn side_of_coin(draw: u64, threshold: u64) -> usize
+    ensures { result ≡ first_above draw (threshold ∷ []) }
+{
+    usize::from(threshold <= draw)
 }
 
 /// The weight that a node gives.
@@ -138,6 +148,7 @@ pub fn branch(
 {
     match weighing {
         Weights::Certain => Ok(0),
+        Weights::Coin(threshold) => Ok(side_of_coin(draws.next(), *threshold)),
         Weights::Fixed(thresholds) => Ok(index_above(draws.next(), thresholds.as_slice())),
         Weights::Varying(nodes) => {
             varying(chain, command, nodes.as_slice(), state, weights, draws)

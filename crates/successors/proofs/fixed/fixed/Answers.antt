@@ -8,5 +8,6 @@ returns-then-weights-eq1 c =
 
 pub returns : goal.returns
 returns c =
-    drawn c.args.chain.now c.args.command c.args.nodes c.args.weights.now c.args.den c.in_ok-thresholds.field-0 c.requires.has c.requires.fixed c.requires.common c.requires.some c.requires.few c.requires.whole
-    c.if-weights-eq1.false c.in_ok-thresholds.ensures
+    c.by_thresholds.ensures c.args.chain.now c.args.command
+    (drawn c.args.chain.now c.args.command c.args.nodes c.args.weights.now c.args.den c.in_ok-thresholds.field-0 c.requires.has c.requires.fixed c.requires.common c.requires.some c.requires.few c.requires.whole
+    c.if-weights-eq1.false c.in_ok-thresholds.ensures)
