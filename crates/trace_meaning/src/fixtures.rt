@@ -1,6 +1,6 @@
 //! Small expressions and chains for the tests.
 
-use chain_model::{Act, Action, Arm, Chain, Form, Op, Sort, Typed, Value, Var};
+use chain_model::{Act, Action, Arm, Chain, Form, Func, Op, Sort, Typed, Value, Var};
 use smc_num::{Frac, Text};
 use sqlite_items::Items;
 use std::alloc::{AllocError, Global};
@@ -21,6 +21,10 @@ pub enum Tree {
     Fault,
     /// Whether one over zero is one.
     FaultTruth,
+    /// One modulo minus one.
+    Outside,
+    /// Whether one modulo minus one is zero.
+    OutsideTruth,
     Init,
     Deadlock,
 }
@@ -64,6 +68,17 @@ pub fn pair(
     })
 }
 
+/// One modulo minus one.
+fn outside(alloc: Global) -> Result<Typed, AllocError> {
+    let mut operands = Items::new(alloc);
+    operands.push(whole(1))?;
+    operands.push(whole(-1))?;
+    Ok(Typed {
+        sort: Sort::Int,
+        form: Form::Call(Func::Mod, operands),
+    })
+}
+
 pub fn typed(alloc: Global, tree: Tree) -> Result<Typed, AllocError> {
     let (sort, form) = match tree {
         Tree::Truth(holds) => (Sort::Bool, Form::Lit(Value::Bool(holds))),
@@ -82,6 +97,10 @@ pub fn typed(alloc: Global, tree: Tree) -> Result<Typed, AllocError> {
         Tree::FaultTruth => {
             let quotient = pair(alloc, Sort::Double, whole(1), Op::Div, whole(0))?;
             return pair(alloc, Sort::Bool, quotient, Op::Eq, whole(1));
+        }
+        Tree::Outside => return outside(alloc),
+        Tree::OutsideTruth => {
+            return pair(alloc, Sort::Bool, outside(alloc)?, Op::Eq, whole(0));
         }
     };
     Ok(Typed { sort, form })
@@ -176,23 +195,23 @@ fn names(alloc: Global, modules: u32) -> Result<Items<Text>, AllocError> {
     Ok(names)
 }
 
-/// One action of these modules, or none where there are none.
-fn actions(alloc: Global, takes: &[u32]) -> Result<Items<Action>, AllocError> {
+/// An action of each of these lists of modules.
+fn actions(alloc: Global, takes: &[&[u32]]) -> Result<Items<Action>, AllocError> {
     let mut actions = Items::new(alloc);
-    if !takes.is_empty() {
+    for modules in takes {
         actions.push(Action {
             name: Text::from_bytes(alloc, b"a")?,
-            takes: Items::from_slice(alloc, takes)?,
+            takes: Items::from_slice(alloc, modules)?,
         })?;
     }
     Ok(actions)
 }
 
-/// The chain of so many modules, each with one variable, of an action of some modules, and of commands.
+/// The chain of so many modules, each with one variable, of actions of some modules each, and of commands.
 pub fn chain(
     alloc: Global,
     modules: u32,
-    takes: &[u32],
+    takes: &[&[u32]],
     commands: &[Command],
 ) -> Result<Option<Chain>, AllocError> {
     let vars = variables(alloc, modules)?;

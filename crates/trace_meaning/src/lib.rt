@@ -31,6 +31,8 @@ mod expected;
 #[cfg(test)]
 mod fixtures;
 #[cfg(test)]
+mod module_tests;
+#[cfg(test)]
 mod reading_tests;
 #[cfg(test)]
 mod step_tests;

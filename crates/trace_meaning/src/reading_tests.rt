@@ -115,7 +115,7 @@ static LABELS: [(Tree, [i64; 2], Gives); 7] = [
 fn is_label(alloc: Global, row: &(Tree, [i64; 2], Gives)) -> Result<bool, AllocError> {
     let (label, state, gives) = row;
     let tree = typed(alloc, *label)?;
-    match chain(alloc, 2, &[0, 1], &SYNCHRONISED)? {
+    match chain(alloc, 2, &[&[0, 1]], &SYNCHRONISED)? {
         Some(chain) => Ok(eval(&tree, &chain, state.as_slice()) == given(gives)),
         None => Ok(false),
     }

@@ -9,6 +9,17 @@ use std::alloc::{AllocError, Global};
 use std::test::Fail;
 use trace_streams::Draws;
 
+/// The draws of trace 0 under seed 1, from a place on.
+pub fn draws_from(place: u64) -> Draws {
+    let mut draws = Draws::new(1, 0);
+    for _ in 0..place {
+        if draws.place() < 1000 {
+            draws.next();
+        }
+    }
+    draws
+}
+
 /// The first two values of the next state, or a fault; and the place of the draws afterwards. There is none where
 /// memory ran out.
 fn step_from(
@@ -17,12 +28,7 @@ fn step_from(
     state: &[i64],
     place: u64,
 ) -> Option<(Result<(i64, i64), TraceFault>, u64)> {
-    let mut draws = Draws::new(1, 0);
-    for _ in 0..place {
-        if draws.place() < 1000 {
-            draws.next();
-        }
-    }
+    let mut draws = draws_from(place);
     if draws.place() > 1000 {
         return None;
     }
@@ -38,10 +44,10 @@ fn step_from(
 
 const HALF: Tree = Tree::Number(1, 2);
 
-/// A weight, and what the first variable is assigned.
-type Way = (Tree, Tree);
+/// A weight, and what a variable is assigned.
+pub type Way = (Tree, Tree);
 
-/// One branch or two of a command, the place of the draws, what a step gives where the variables are 1 and 2, and the
+/// One branch or two of a command that assign the first variable, the place of the draws, what a step gives where the variables are 1 and 2, and the
 /// place afterwards.
 static STEPS: [(Way, Option<Way>, u64, Result<(i64, i64), TraceFault>, u64); 13] = [
     (
@@ -234,8 +240,11 @@ static FIVE: [Command; 5] = [
     Command { module: 2, ..STAYS },
 ];
 
+/// A choice: its action, and its commands.
+pub type Row = (Option<u32>, &'static [u32]);
+
 /// What these may do.
-static CHOICES: [(Option<u32>, &[u32]); 5] = [
+static CHOICES: [Row; 5] = [
     (None, &[4]),
     (Some(0), &[0, 2]),
     (Some(0), &[0, 3]),
@@ -244,26 +253,26 @@ static CHOICES: [(Option<u32>, &[u32]); 5] = [
 ];
 
 /// Whether a choice is the one of its row.
-fn is_choice(choice: &Choice, row: &(Option<u32>, &[u32])) -> bool {
+fn is_choice(choice: &Choice, row: &Row) -> bool {
     choice.action == row.0 && choice.commands.as_slice() == row.1
 }
 
-/// Whether choices are those of the table, in its order.
-fn are_choices(list: &[Choice]) -> bool {
-    list.len() == CHOICES.len()
+/// Whether choices are those of a table, in its order.
+pub fn are_choices(list: &[Choice], rows: &[Row]) -> bool {
+    list.len() == rows.len()
         && list
             .iter()
-            .zip(&CHOICES)
+            .zip(rows)
             .all(|(choice, row)| is_choice(choice, row))
 }
 
 /// Whether the five commands have the choices of the table.
 fn has_choices(alloc: Global) -> Result<bool, AllocError> {
-    let Some(chain) = chain(alloc, 3, &[0, 1], &FIVE)? else {
+    let Some(chain) = chain(alloc, 3, &[&[0, 1]], &FIVE)? else {
         return Ok(false);
     };
     match choices(alloc, &chain, &[1, 2, 0], 7) {
-        Ok((count, list)) => Ok(count == 5 && are_choices(list.as_slice())),
+        Ok((count, list)) => Ok(count == 5 && are_choices(list.as_slice(), &CHOICES)),
         Err(_) => Ok(false),
     }
 }
@@ -281,7 +290,7 @@ static JOINT: [(u64, (i64, i64), u64); 3] = [(0, (0, 0), 1), (2, (2, 0), 3), (3,
 /// Whether a step of the five commands gives what a row says.
 fn is_joint(alloc: Global, row: &(u64, (i64, i64), u64)) -> Result<bool, AllocError> {
     let (place, gives, after) = *row;
-    match chain(alloc, 3, &[0, 1], &FIVE)? {
+    match chain(alloc, 3, &[&[0, 1]], &FIVE)? {
         Some(chain) => Ok(step_from(alloc, &chain, &[1, 2, 0], place) == Some((Ok(gives), after))),
         None => Ok(false),
     }
@@ -309,7 +318,7 @@ fn many(alloc: Global, modules: u32) -> Result<Option<Chain>, Fail> {
         commands.push(command)?;
         takes.push(module)?;
     }
-    Ok(chain(alloc, modules, takes.as_slice(), commands.as_slice())?)
+    Ok(chain(alloc, modules, &[takes.as_slice()], commands.as_slice())?)
 }
 
 /// How many modules there are, what a step gives, and the place of the draws afterwards.
