@@ -1,7 +1,7 @@
 -- The end of a run whose traces are taken one by one.
 use Rattle.std.proofs.Common.{◌≡◌, ◌==◌, ◌↔◌, ℕ, zero, suc, ◌+◌, ◌-◌, ◌≤◌, Bool, true, false, List, [], ◌∷◌, ◌++◌, Option, Some, None, refl, ap, sym, ◌∙◌, subst, arith, rules, length, slice_get, take, map, nat_lt, if◌then◌else◌, length-append, option_map}
 use Rattle.std.proofs.lemmas.List.{length-map, take_all, length-take}
-use Rattle.std.proofs.lemmas.Option.{slice_get_within}
+use Rattle.std.proofs.lemmas.Option.{slice_get_within, none-some}
 use Rattle.chain_model.specs.declared.job.Job.{Job}
 use Rattle.chain_model.specs.declared.outcome.TraceFault.{TraceFault}
 use Rattle.chain_model.specs.declared.outcome.Outcome.{Outcome}
@@ -80,12 +80,18 @@ made_of counts (Some cause) end e =
     let same : end_at counts cause ≡ end = cc in
     (ap (λ (v : End). Some v.cause) same, ap (λ (v : End). v.d + v.f) (sym same))
 
--- an end by a fault counts the traces before it
-fault_counts : (goal : Goal) (counts : Counts) (last : Option Bool) (end : End) → end_with goal counts last ≡ Some end → end.cause ≡ cause.Fault → end.d + end.f ≡ counts.d + counts.f
-fault_counts goal counts None end ends is = (made_of counts (Some cause.Fault) end ends).1
-fault_counts goal counts (Some truth) end ends is =
+-- an end by a fault comes of a trace without a truth value
+last_of_fault : (goal : Goal) (counts : Counts) (last : Option Bool) (end : End) → end_with goal counts last ≡ Some end → end.cause ≡ cause.Fault → last ≡ None
+last_of_fault goal counts None end ends is = refl
+last_of_fault goal counts (Some truth) end ends is =
     let made = made_of (counted truth counts) (cause_at goal (counted truth counts)) end ends in
     absurd (no_fault (class_of goal.rule (counted truth counts).d (counted truth counts).f) (((counted truth counts).d + (counted truth counts).f) == goal.limit) (made.0 ∙ ap (λ (v : Cause). Some v) is))
+
+-- an outcome without a truth value is a fault, which is told
+fault_is_told : (flip : Bool) (own : Outcome) → seen_of flip own ≡ None → ((step : ℕ) (fault : TraceFault) → (◌≡◌ {A = Option (ℕ × TraceFault)} None (Some (step, fault))) ↔ (own ≡ outcome.Fault step fault)) → ⊥
+fault_is_told flip outcome.True e told = none-some _ (sym e)
+fault_is_told flip outcome.False e told = none-some _ (sym e)
+fault_is_told flip (outcome.Fault step fault) e told = none-some _ ((told step fault).1 refl)
 
 -- a trace that faults ends a run by its fault
 fault_ends : (goal : Goal) (counts : Counts) (end : End) → end_with goal counts None ≡ Some end → (end.cause ≡ cause.Fault) × (end.d + end.f ≡ counts.d + counts.f)
@@ -114,19 +120,17 @@ ends_with_block job goal counts trace code end block ends =
 pub fault_of_end : (job : Job) (goal : Goal) (counts : Counts) (trace code : ℕ) (own : Outcome) (end : End) (found : Option (ℕ × TraceFault)) → IsOutcome job trace own → counts.d + counts.f ≡ trace
     → IsBlockCode (IsOutcome job) trace 1 code → EndsAmong goal counts (seen_in goal.flip code 1) end
     → ((step : ℕ) (fault : TraceFault) → (found ≡ Some (step, fault)) ↔ (own ≡ outcome.Fault step fault)) → IsFaultOf job end found
-fault_of_end job goal counts trace code own end found is many block ends told step fault =
-    let one = ends_with_block job goal counts trace code end block ends in (
-      (λ given.
-          let faults : own ≡ outcome.Fault step fault = (told step fault).0 given in
-          let none : one.last ≡ None = last_of job goal counts trace code own end is block one ∙ ap (seen_of goal.flip) faults in
-          let by_fault = fault_ends goal counts end (rw none at one.ends) in
-          let number : trace ≡ end.d + end.f = sym (by_fault.1 ∙ many) in
-          (by_fault.0, subst (λ (v : ℕ). IsOutcome job v (outcome.Fault step fault)) number (subst (λ (v : Outcome). IsOutcome job trace v) faults is))),
-      (λ fault_is.
-          let number : end.d + end.f ≡ trace = fault_counts goal counts one.last end one.ends fault_is.0 ∙ many in
-          let here : IsOutcome job trace (outcome.Fault step fault) = subst (λ (v : ℕ). IsOutcome job v (outcome.Fault step fault)) number fault_is.1 in
-          (told step fault).1 (one_outcome_at_most job trace own (outcome.Fault step fault) is here)),
-    )
+fault_of_end job goal counts trace code own end (Some (step, fault)) is many block ends told =
+    let one = ends_with_block job goal counts trace code end block ends in
+    let faults : own ≡ outcome.Fault step fault = (told step fault).0 refl in
+    let none : one.last ≡ None = last_of job goal counts trace code own end is block one ∙ ap (seen_of goal.flip) faults in
+    let by_fault = fault_ends goal counts end (rw none at one.ends) in
+    let number : trace ≡ end.d + end.f = sym (by_fault.1 ∙ many) in
+    (by_fault.0, subst (λ (v : ℕ). IsOutcome job v (outcome.Fault step fault)) number (subst (λ (v : Outcome). IsOutcome job trace v) faults is))
+fault_of_end job goal counts trace code own end None is many block ends told = λ by_fault.
+    let one = ends_with_block job goal counts trace code end block ends in
+    let none : one.last ≡ None = last_of_fault goal counts one.last end one.ends by_fault in
+    fault_is_told goal.flip own (sym (last_of job goal counts trace code own end is block one) ∙ none) told
 
 -- where the first thing seen of a block is a truth value, the block has one
 some_truth : (truths : List Bool) (faults : Bool) (truth : Bool) → slice_get (map (λ t. Some t) truths ++ (if faults then None ∷ [] else [])) 0 ≡ Some (Some truth) → 1 ≤ length truths
@@ -148,6 +152,18 @@ counted_by_end goal counts truths faults (Some truth) end is ends =
     let once = counted_once truth counts (counted truth counts) refl in
     let some = some_truth truths faults truth is in
     (omega (arith, sum, once), omega (arith, sum, once, some))
+
+-- a run that ends with a trace counts no trace after it
+pub few_at_end : (job : Job) (goal : Goal) (counts : Counts) (trace code : ℕ) (end : End) → counts.d + counts.f ≡ trace → IsBlockCode (IsOutcome job) trace 1 code
+    → EndsAmong goal counts (seen_in goal.flip code 1) end → end.d + end.f ≤ trace + 1
+few_at_end job goal counts trace code end many block ends =
+    let one = ends_with_block job goal counts trace code end block ends in
+    let within = counted_by_end goal counts (truths_in goal.flip code) (nat_lt (given_in code) 1) one.last end one.is one.ends in
+    let low = within.0 in
+    let high = within.1 in
+    let long = length-truths goal.flip (given_in code) code in
+    let given = (block_is_code (IsOutcome job) trace 1 code (omega arith) (omega arith) block).given in
+    omega (arith, low, high, long, given, many)
 
 -- the seats of observers have seen the traces that a run admitted, and no more
 pub record HaveSeenAll (job : Job) (goal : Goal) (watched seats : List Seated) (end : End) : Type 0 where

@@ -1,5 +1,5 @@
 -- What drawing the traces of a job gives: the end of the run, the fault that ended it, and what the observers say.
-use Rattle.std.specs.Prelude.{◌≡◌, ◌↔◌, ℕ, ◌+◌, List, Bool, Option, Some, length, map}
+use Rattle.std.specs.Prelude.{◌≡◌, ◌≢◌, ℕ, ◌+◌, List, Bool, Option, Some, None, length, map}
 use Rattle.chain_model.specs.declared.job.Job.{Job}
 use Rattle.chain_model.specs.declared.outcome.TraceFault.{TraceFault}
 use Rattle.chain_model.specs.declared.outcome.Outcome.TheVariants as outcome
@@ -21,7 +21,7 @@ pub record AreLines (job : Job) (goal : Goal) (watched : List Observation) (end 
   pub all : length truths ≡ end.d + end.f
   pub lines : told ≡ map (λ before. line_at (seat_after_all truths (watching before))) watched
 
--- the step and the fault of the trace that ended a run by a fault, and nothing where the run ended otherwise
+-- the step and the fault of the trace that ended a run by a fault; where it ended otherwise there is none
 abbrev pub IsFaultOf : Job → End → Option (ℕ × TraceFault) → Type 0
-IsFaultOf job end found = (step : ℕ) (fault : TraceFault)
-    → (found ≡ Some (step, fault)) ↔ ((end.cause ≡ Fault) × IsOutcome job (end.d + end.f) (outcome.Fault step fault))
+IsFaultOf job end (Some (step, fault)) = (end.cause ≡ Fault) × IsOutcome job (end.d + end.f) (outcome.Fault step fault)
+IsFaultOf job end None = end.cause ≢ Fault

@@ -1,6 +1,6 @@
 //! The run of a job.
 
-ghost use Rattle.std.specs.Prelude.{◌≡◌, IsTrue, IfOk, map};
+ghost use Rattle.std.specs.Prelude.{◌≡◌, ◌+◌, ◌≤◌, IsTrue, IfOk, map};
 ghost use Rattle.std.specs.List.{list_all};
 ghost use Rattle.stop_rules.specs.Observers.{is_ready};
 ghost use Rattle.stop_rules.specs.Run.{EndsRun};
@@ -33,6 +33,7 @@ pub fn draw(
 ) -> Result<Drawn, AllocError>
     requires ready { IsTrue (list_all is_ready (map (λ b. observation b) watch.items)) }
     ensures end { IfOk result (λ drawn. EndsRun job.now goal drawn.end) }
+    ensures few { IfOk result (λ drawn. drawn.end.d + drawn.end.f ≤ goal.limit) }
     ensures fault { IfOk result (λ drawn. IsFaultOf job.now drawn.end drawn.fault) }
     ensures lines { IfOk result (λ drawn.
         AreLines job.now goal (map (λ b. observation b) watch.items) drawn.end drawn.lines.items) }
@@ -52,6 +53,7 @@ fn draw_in(
     requires work { IsMadeFor job.now work.old }
     requires ready { IsTrue (list_all is_ready (map (λ b. observation b) watch.items)) }
     ensures end { IfOk result (λ drawn. EndsRun job.now goal drawn.end) }
+    ensures few { IfOk result (λ drawn. drawn.end.d + drawn.end.f ≤ goal.limit) }
     ensures fault { IfOk result (λ drawn. IsFaultOf job.now drawn.end drawn.fault) }
     ensures lines { IfOk result (λ drawn.
         AreLines job.now goal (map (λ b. observation b) watch.items) drawn.end drawn.lines.items) }

@@ -4,7 +4,7 @@ use Rattle.chain_model.specs.Outcome.{IsOutcome}
 use Rattle.stop_rules.specs.Decision.{Counts}
 use Rattle.stop_rules.proofs.BlockLemmas.{block_is_code}
 use Rattle.sampling_run.proofs.RunLemmas.{admitted_none, admitted_one_more, one_more_counted, ends_with_next}
-use Rattle.sampling_run.proofs.EndLemmas.{fault_of_end, seen_all, lines_of_all, not_past_limit}
+use Rattle.sampling_run.proofs.EndLemmas.{fault_of_end, few_at_end, seen_all, lines_of_all, not_past_limit}
 use Rattle.sampling_run.proofs.drawing.draw_in.Goals as goal
 
 pub loop-trace-init : goal.loop-trace-init
@@ -34,6 +34,14 @@ returns-in-Some-clause-fault g c =
     let ends = rw c.loop-trace.invariant.same at ((c.feed_code.ensures.end c.in-Some.end).0 c.in-Some.is) in
     fault_of_end c.args.job.now c.args.goal c.loop-trace.admit.tally c.loop-trace.trace c.code_of_one.result c.outcome-outcome.result c.in-Some.end c.fault_of.result
     c.outcome-outcome.ensures.outcome c.loop-trace.invariant.many block ends c.fault_of.ensures
+
+pub returns-in-Some-clause-few : goal.returns-in-Some-clause-few
+returns-in-Some-clause-few g c =
+    let block = c.code_of_one.ensures c.args.job.now c.loop-trace.trace c.outcome-outcome.ensures.outcome in
+    let ends = rw c.loop-trace.invariant.same at ((c.feed_code.ensures.end c.in-Some.end).0 c.in-Some.is) in
+    let few = few_at_end c.args.job.now c.args.goal c.loop-trace.admit.tally c.loop-trace.trace c.code_of_one.result c.in-Some.end c.loop-trace.invariant.many block ends in
+    let limit = c.loop-trace.invariant.limit in
+    omega (arith, few, limit)
 
 pub returns-in-Some-clause-lines : goal.returns-in-Some-clause-lines
 returns-in-Some-clause-lines g c =
