@@ -1,3 +1,10 @@
-pub mod DrawnLemmas
-pub mod ReportLemmas
+pub mod StatusLemmas
+pub mod AnswerLemmas
+pub mod FileLemmas
+pub mod LineLemmas
+pub mod RunLemmas
+pub mod AskLemmas
+pub mod PrepareLemmas
+pub mod OneRun
+pub mod OneAsked
 pub mod OneReport

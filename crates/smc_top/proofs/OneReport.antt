@@ -1,107 +1,100 @@
 -- Words have one report over the same files.
-use Rattle.std.proofs.Common.{◌≡◌, ℕ, ◌+◌, ◌^◌, ◌<◌, ◌≤◌, ◌⊎◌, inl, inr, List, Option, Some, None, length, map, sym, ap, ◌∙◌, subst, arith}
-use Rattle.std.proofs.Props.{props}
-use Rattle.std.specs.List.{IsDistinct}
-use Rattle.std.specs.Str.{bytes_eq}
-use mathlib.Core.HLevel.{is_prop→PathP}
-use mathlib.Core.Path.{PathP}
-use Rattle.first_chain.specs.declared.chain.Chain.{Chain}
-use Rattle.first_chain.specs.declared.chain.Var.{Var}
-use Rattle.first_chain.specs.declared.job.Job.{Job}
-use Rattle.first_chain.specs.declared.job.Path.{Path}
-use Rattle.first_form.specs.Model.{IsModel}
-use Rattle.first_form.specs.Property.{IsProperty}
-use Rattle.sampling_plan.specs.SinglePlan.{SinglePlan}
-use Rattle.smc_io.specs.Files.{Named, bytes_at}
-use Rattle.first_words.specs.declared.check.Check.{Check}
-use Rattle.first_words.specs.Settings.{settings_of}
-use Rattle.first_report.specs.Report.{report_of}
-use Rattle.first_stop.specs.declared.end.End.{End}
-use Rattle.first_stop.specs.declared.goal.Goal.{Goal}
-use Rattle.first_stop.specs.Run.{EndsRun}
+use Rattle.std.proofs.Common.{◌≡◌, ℕ, List, [], ◌∷◌, Option, Some, get_or, refl, ap, sym, ◌∙◌, subst}
+use Rattle.stop_rules.specs.Observers.{Observation}
+use Rattle.smc_io.specs.Files.{Named}
+use Rattle.smc_settings.specs.declared.commands.Settings.{Settings}
+use Rattle.smc_settings.specs.declared.commands.Settings.TheVariants as command
+use Rattle.smc_settings.specs.Settings.{IsSettings}
+use Rattle.smc_report.specs.declared.reason.Reason.{Reason}
+use Rattle.smc_report.specs.declared.reason.Reason.TheVariants as reason
+use Rattle.smc_report.specs.Refusals.{status_of}
+use Rattle.front_end.specs.declared.models.Model.{Model}
+use Rattle.smc_top.specs.declared.asking.Asked.{Asked}
 use Rattle.smc_top.specs.declared.report.Report.{Report}
-use Rattle.smc_top.specs.Job.{IsJob, IsGoal, IsOutside}
-use Rattle.smc_top.specs.Report.{status_of, IsRunReport, IsCheckReport, IsReportOf, IsReport}
+use Rattle.smc_top.specs.declared.status.Status.{Status}
+use Rattle.smc_top.specs.declared.status.Status.TheVariants.{Accepted, Rejected, Undecided, Usage, ReadFault, ModelRefused, PropertyRefused, SettingsRefused, TraceFault, WriteFault, OutOfMemory}
+use Rattle.smc_top.specs.Codes.{code_of}
+use Rattle.smc_top.specs.Asked.{file_of, Refuses}
+use Rattle.smc_top.specs.Report.{IsRefusal, IsRun, IsTraced, Reports, IsAnswer, IsReport, bytes_of, refused, reported, usage, answered}
+use Rattle.smc_top.proofs.OneRun.{OneEnd, report_same, runs_same}
+use Rattle.smc_top.proofs.OneAsked.{OneModel, OneProperty, models_same, model_or_refused, model_refusal, check_asks_one, check_asks_or_refuses, check_refuses_once}
 
--- a text is that of one chain at most
-abbrev pub OneModel : Type 0
-OneModel = (text : List ℕ) (a b : Chain) → IsModel text a → IsModel text b → a ≡ b
+-- words give one command with its settings at most
+abbrev pub OneSettings : Type 0
+OneSettings = (words : List (List ℕ)) (a b : Settings) → IsSettings words a → IsSettings words b → a ≡ b
 
--- a text is that of one path formula at most, over variables whose names differ
-abbrev pub OneProperty : Type 0
-OneProperty = (text : List ℕ) (vars : List Var) → IsDistinct bytes_eq (map (λ var. var.name) vars) → (a b : Path)
-    → IsProperty text vars a → IsProperty text vars b → a ≡ b
+-- the status of an exit status
+abbrev status_at : ℕ → Status
+status_at code =
+    get_or (Accepted ∷ Rejected ∷ Undecided ∷ Usage ∷ ReadFault ∷ ModelRefused ∷ PropertyRefused ∷ SettingsRefused ∷ TraceFault ∷ WriteFault ∷ []) code OutOfMemory
 
--- a run has at most one end
-abbrev pub OneEnd : Type 0
-OneEnd = (job : Job) (goal : Goal) (a b : End) → EndsRun job goal a → EndsRun job goal b → a ≡ b
+-- an exit status is that of one status
+status_of_code : (status : Status) → status_at (code_of status) ≡ status
+status_of_code Accepted = refl
+status_of_code Rejected = refl
+status_of_code Undecided = refl
+status_of_code Usage = refl
+status_of_code ReadFault = refl
+status_of_code ModelRefused = refl
+status_of_code PropertyRefused = refl
+status_of_code SettingsRefused = refl
+status_of_code TraceFault = refl
+status_of_code WriteFault = refl
+status_of_code OutOfMemory = refl
 
--- jobs of the same chain, path formula and seed are one
-job_same : (a b : Job) → a.chain ≡ b.chain → a.path ≡ b.path → a.seed ≡ b.seed → a ≡ b
-job_same a b chain path seed =
-    let known : PathP (λ i. (path i).second.var < length (chain i).vars) a.known b.known =
-    is_prop→PathP (λ i. (path i).second.var < length (chain i).vars) (λ i. hlevel props) a.known b.known in
-    λ i. record { chain = chain i; path = path i; seed = seed i; known = known i }
+-- statuses of one exit status are one
+codes_same : (a b : Status) → code_of a ≡ code_of b → a ≡ b
+codes_same a b e = sym (status_of_code a) ∙ (ap status_at e ∙ status_of_code b)
 
--- goals of the same plan and limit are one
-goal_same : (a b : Goal) → a.plan ≡ b.plan → a.limit ≡ b.limit → a ≡ b
-goal_same a b plan limit =
-    let some : PathP (λ i. 1 ≤ limit i) a.some b.some = is_prop→PathP (λ i. 1 ≤ limit i) (λ i. hlevel props) a.some b.some in
-    let limited : PathP (λ i. limit i ≤ 2 ^ 28) a.limited b.limited =
-    is_prop→PathP (λ i. limit i ≤ 2 ^ 28) (λ i. hlevel props) a.limited b.limited in
-    λ i. record { plan = plan i; limit = limit i; some = some i; limited = limited i }
+-- what two optional texts are the same
+some_same : (a b : List ℕ) → ◌≡◌ {A = Option (List ℕ)} (Some a) (Some b) → a ≡ b
+some_same a b e = cc
 
--- plans of the same numbers are one
-plan_same : (a b : SinglePlan) → a.samples ≡ b.samples → a.acceptance_number ≡ b.acceptance_number → a ≡ b
-plan_same a b samples number = λ i. record { samples = samples i; acceptance_number = number i }
+-- a refusal has one report
+refusals_same : (why : Reason) (a b : Report) → IsRefusal why a → IsRefusal why b → a ≡ b
+refusals_same why a b p q = report_same a b (codes_same a.status b.status (p.status ∙ sym q.status)) (some_same a.bytes b.bytes (sym p.line ∙ q.line))
 
--- settings and a text ask for one job
-one_job : OneModel → OneProperty → (check : Check) (text : List ℕ) (a b : Job) → IsJob check text a → IsJob check text b → a ≡ b
-one_job model property check text a b p q =
-    let chain : a.chain ≡ b.chain = model text a.chain b.chain p.model q.model in
-    let over : IsProperty check.property a.chain.vars b.path =
-    subst (λ (c : Chain). IsProperty check.property c.vars b.path) (sym chain) q.property in
-    let path : a.path ≡ b.path = property check.property a.chain.vars p.model.distinct a.path b.path p.property over in
-    job_same a b chain path (p.seed ∙ sym q.seed)
+-- a command refuses a text for one reason
+refuses_once : OneModel → OneProperty → (settings : Settings) (text : List ℕ) (why other : Reason) → Refuses settings text why → Refuses settings text other → why ≡ other
+refuses_once model one (command.Check name property given seed test limit workers) text why other p q = check_refuses_once model one text property given test limit why other p q
+refuses_once model one (command.Trace name given seed index steps) text why other p q = model_refusal model text given why other p q
+refuses_once model one command.Help text why other p q = absurd p
 
--- settings ask for one goal
-one_goal : (check : Check) (a b : Goal) → IsGoal check a → IsGoal check b → a ≡ b
-one_goal check a b p q =
-    goal_same a b (plan_same a.plan b.plan (p.samples ∙ sym q.samples) (p.acceptance_number ∙ sym q.acceptance_number)) (p.limit ∙ sym q.limit)
+-- what a command refuses it doesn't report on
+refuses_or_reports : OneModel → OneProperty → (watched : List Observation) (settings : Settings) (text : List ℕ) (report : Report) (why : Reason) → Reports watched settings text report → Refuses settings text why → ⊥
+refuses_or_reports model one watched (command.Check name property given seed test limit workers) text report why (asked, asks, run) refuses =
+    check_asks_or_refuses model one text property given seed test limit asked why asks refuses
+refuses_or_reports model one watched (command.Trace name given seed index steps) text report why (read, is, traced) refuses = model_or_refused model text given read why is refuses
+refuses_or_reports model one watched command.Help text report why same refuses = refuses
 
--- reports of the same status and bytes are one
-report_same : (a b : Report) → a.status ≡ b.status → a.bytes ≡ b.bytes → a ≡ b
-report_same a b status bytes = λ i. record { status = status i; bytes = bytes i }
+-- a command reports one thing on a text
+reports_once : OneModel → OneProperty → OneEnd → (watched : List Observation) (settings : Settings) (text : List ℕ) (a b : Report) → Reports watched settings text a → Reports watched settings text b → a ≡ b
+reports_once model one ends watched (command.Check name property given seed test limit workers) text a b (asked, asks, run) (other, also, ran) =
+    let same : other ≡ asked = check_asks_one model one text property given seed test limit other asked also asks in
+    runs_same ends (command.Check name property given seed test limit workers) watched asked a b run
+    (subst (λ (v : Asked). IsRun (command.Check name property given seed test limit workers) watched v b) same ran)
+reports_once model one ends watched (command.Trace name given seed index steps) text a b (read, is, traced) (other, also, drawn) =
+    let same : other ≡ read = models_same model text given other read also is in
+    let here : IsTraced read.chain seed index steps b = subst (λ (v : Model). IsTraced v.chain seed index steps b) same drawn in
+    report_same a b (traced.status ∙ sym here.status) (traced.bytes ∙ sym here.bytes)
+reports_once model one ends watched command.Help text a b p q = p ∙ sym q
 
--- a run has one report
-runs_same : OneModel → OneProperty → OneEnd → (check : Check) (text : List ℕ) (a b : Report) → IsRunReport check text a → IsRunReport check text b → a ≡ b
-runs_same model property end check text a b p q =
-    let job : q.job ≡ p.job = one_job model property check text q.job p.job q.is_job p.is_job in
-    let goal : q.goal ≡ p.goal = one_goal check q.goal p.goal q.is_goal p.is_goal in
-    let same_job : EndsRun p.job q.goal q.end = subst (λ (j : Job). EndsRun j q.goal q.end) job q.ends in
-    let same_goal : EndsRun p.job p.goal q.end = subst (λ (g : Goal). EndsRun p.job g q.end) goal same_job in
-    let ends : p.end ≡ q.end = end p.job p.goal p.end q.end p.ends same_goal in
-    report_same a b
-    (p.status ∙ (ap (λ (e : End). status_of e.cause) ends ∙ sym q.status))
-    (p.bytes ∙ (ap (λ (e : End). report_of check e) ends ∙ sym q.bytes))
-
--- what is outside the form has no run
-outside_or_run : (check : Check) (text : List ℕ) (report : Report) → IsOutside check text → IsRunReport check text report → ⊥
-outside_or_run check text report (inl none) run = none run.job run.is_job
-outside_or_run check text report (inr above) run = omega (arith, run.is_goal.below, above)
-
--- settings and a text have one report
-checks_same : OneModel → OneProperty → OneEnd → (check : Check) (text : List ℕ) (a b : Report) → IsCheckReport check text a → IsCheckReport check text b → a ≡ b
-checks_same model property end check text a b (inl p) (inl q) = p.1 ∙ sym q.1
-checks_same model property end check text a b (inl p) (inr q) = absurd (outside_or_run check text b p.0 q)
-checks_same model property end check text a b (inr p) (inl q) = absurd (outside_or_run check text a q.0 p)
-checks_same model property end check text a b (inr p) (inr q) = runs_same model property end check text a b p q
-
--- the settings that the words give have one report
-settings_same : OneModel → OneProperty → OneEnd → (settings : Option Check) (files : Named) (a b : Report) → IsReportOf settings files a → IsReportOf settings files b → a ≡ b
-settings_same model property end None files a b p q = p ∙ sym q
-settings_same model property end (Some check) files a b p q = checks_same model property end check (bytes_at files check.model) a b p q
+-- settings are answered one thing over a text
+answers_once : OneModel → OneProperty → OneEnd → (watched : List Observation) (settings : Settings) (text : List ℕ) (a b : Report) → IsAnswer watched settings text a → IsAnswer watched settings text b → a ≡ b
+answers_once model one ends watched settings text a b (refused why p is) (refused other q also) =
+    let same : other ≡ why = refuses_once model one settings text other why q p in
+    refusals_same why a b is (subst (λ (v : Reason). IsRefusal v b) same also)
+answers_once model one ends watched settings text a b (refused why p is) (reported q) = absurd (refuses_or_reports model one watched settings text b why q p)
+answers_once model one ends watched settings text a b (reported p) (refused why q is) = absurd (refuses_or_reports model one watched settings text a why p q)
+answers_once model one ends watched settings text a b (reported p) (reported q) = reports_once model one ends watched settings text a b p q
 
 -- words have one report over the same files
-pub reports_same : OneModel → OneProperty → OneEnd → (words : List (List ℕ)) (files : Named) (a b : Report) → IsReport words files a → IsReport words files b → a ≡ b
-reports_same model property end words files a b p q = settings_same model property end (settings_of words) files a b p q
+pub reports_same : OneSettings → OneModel → OneProperty → OneEnd → (words : List (List ℕ)) (files : Named) (watched : List Observation) (a b : Report)
+    → IsReport words files watched a → IsReport words files watched b → a ≡ b
+reports_same settings model one ends words files watched a b (usage none is) (usage never also) = refusals_same reason.Usage a b is also
+reports_same settings model one ends words files watched a b (usage none is) (answered found read answer) = absurd (none found read)
+reports_same settings model one ends words files watched a b (answered found read answer) (usage none is) = absurd (none found read)
+reports_same settings model one ends words files watched a b (answered found read answer) (answered other also said) =
+    let same : other ≡ found = settings words other found also read in
+    answers_once model one ends watched found (bytes_of files (file_of found)) a b answer
+    (subst (λ (v : Settings). IsAnswer watched v (bytes_of files (file_of v)) b) same said)

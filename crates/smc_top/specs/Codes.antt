@@ -1,7 +1,7 @@
 -- The exit statuses of the program.
 use Rattle.std.specs.Prelude.{ℕ}
 use Rattle.smc_top.specs.declared.status.Status.{Status}
-use Rattle.smc_top.specs.declared.status.Status.TheVariants.{Accepted, Rejected, Undecided, Usage, ReadFault, ModelRefused, PropertyRefused, SettingsRefused, TraceFault, WriteFault, OutOfMemory, NotThisForm}
+use Rattle.smc_top.specs.declared.status.Status.TheVariants.{Accepted, Rejected, Undecided, Usage, ReadFault, ModelRefused, PropertyRefused, SettingsRefused, TraceFault, WriteFault, OutOfMemory}
 
 -- the exit status
 abbrev pub code_of : Status → ℕ
@@ -16,4 +16,3 @@ code_of SettingsRefused = 7
 code_of TraceFault = 8
 code_of WriteFault = 9
 code_of OutOfMemory = 10
-code_of NotThisForm = 11

@@ -1,4 +1,5 @@
 pub mod Codes
-pub mod Job
+pub mod Asked
 pub mod Report
 pub mod Outside
+pub mod Stopped

@@ -1,53 +1,98 @@
 -- The report of words over files: the status that the program ends with, and the bytes that it writes.
-use Rattle.std.specs.Prelude.{◌≡◌, ◌≢◌, ◌⊎◌, ℕ, List, Option, Some, None}
+use Rattle.std.specs.Prelude.{◌≡◌, ℕ, ◌+◌, List, [], Option, Some, None, Result, Ok, Err}
+use Rattle.trace_streams.specs.Draws.{draw_at}
 use Rattle.smc_io.specs.Files.{Named, bytes_at}
-use Rattle.first_chain.specs.declared.job.Job.{Job}
-use Rattle.first_words.specs.declared.check.Check.{Check}
-use Rattle.first_words.specs.Settings.{settings_of}
-use Rattle.first_stop.specs.declared.end.Cause.{Cause}
-use Rattle.first_stop.specs.declared.end.Cause.TheVariants.{Accept, Reject, Close, Limit, Fault}
-use Rattle.first_stop.specs.declared.end.End.{End}
-use Rattle.first_stop.specs.declared.goal.Goal.{Goal}
-use Rattle.first_stop.specs.Run.{EndsRun}
-use Rattle.first_report.specs.declared.refused.Refusal.{Refusal}
-use Rattle.first_report.specs.declared.refused.Refusal.TheVariants as refusal
-use Rattle.first_report.specs.Report.{report_of}
-use Rattle.first_report.specs.Refusals.{refusal_of}
+use Rattle.chain_model.specs.declared.chain.Chain.{Chain}
+use Rattle.chain_model.specs.declared.constants.Given.{Given}
+use Rattle.chain_model.specs.declared.outcome.TraceFault.{TraceFault}
+use Rattle.chain_model.specs.declared.outcome.Outcome.TheVariants as outcome
+use Rattle.chain_model.specs.Outcome.{IsOutcome}
+use Rattle.chain_model.specs.Step.{Configuration}
+use Rattle.stop_rules.specs.declared.end.Cause.{Cause}
+use Rattle.stop_rules.specs.declared.end.Cause.TheVariants.{Accept, Reject, Close, Limit, Fault}
+use Rattle.stop_rules.specs.declared.end.End.{End}
+use Rattle.stop_rules.specs.Observers.{Observation}
+use Rattle.stop_rules.specs.Run.{EndsRun}
+use Rattle.sampling_run.specs.Drawn.{AreLines}
+use Rattle.smc_settings.specs.declared.commands.Settings.{Settings}
+use Rattle.smc_settings.specs.declared.commands.Settings.TheVariants as command
+use Rattle.smc_settings.specs.Settings.{IsSettings}
+use Rattle.smc_report.specs.declared.reason.Reason.{Reason}
+use Rattle.smc_report.specs.declared.reason.Reason.TheVariants as reason
+use Rattle.smc_report.specs.Causes.{cause_text}
+use Rattle.smc_report.specs.Help.{commands_line}
+use Rattle.smc_report.specs.Refusals.{refusal_line, status_of}
+use Rattle.smc_report.specs.Report.{check_report}
+use Rattle.trace_report.specs.States.{configuration_after}
+use Rattle.trace_report.specs.Report.{trace_text}
+use Rattle.front_end.specs.declared.models.Model.{Model}
+use Rattle.front_end.specs.Models.{IsModelOf}
+use Rattle.smc_top.specs.declared.asking.Asked.{Asked}
 use Rattle.smc_top.specs.declared.report.Report.{Report}
 use Rattle.smc_top.specs.declared.status.Status.{Status}
-use Rattle.smc_top.specs.declared.status.Status.TheVariants.{Accepted, Rejected, Undecided, Usage, TraceFault, NotThisForm}
-use Rattle.smc_top.specs.Job.{IsJob, IsGoal, IsOutside}
+use Rattle.smc_top.specs.declared.status.Status.TheVariants.{Accepted, Rejected, Undecided, TraceFault as TraceFaulted}
+use Rattle.smc_top.specs.Codes.{code_of}
+use Rattle.smc_top.specs.Asked.{file_of, Asks, Refuses}
+
+-- the report of a refusal: its line, and its status
+pub record IsRefusal (why : Reason) (report : Report) : Type 0 where
+  pub line : refusal_line why ≡ Some report.bytes
+  pub status : code_of report.status ≡ status_of why
 
 -- the status of a run by its cause
-abbrev pub status_of : Cause → Status
-status_of Accept = Accepted
-status_of Reject = Rejected
-status_of Close = Undecided
-status_of Limit = Undecided
-status_of Fault = TraceFault
+abbrev pub status_of_run : Cause → Status
+status_of_run Accept = Accepted
+status_of_run Reject = Rejected
+status_of_run Close = Undecided
+status_of_run Limit = Undecided
+status_of_run Fault = TraceFaulted
 
--- the report of the run: its traces are drawn one by one, in numeric order, up to the first at which the run ends
-pub record IsRunReport (check : Check) (text : List ℕ) (report : Report) : Type 0 where
-  pub job : Job
-  pub is_job : IsJob check text job
-  pub goal : Goal
-  pub is_goal : IsGoal check goal
+-- the report of a run: the traces of the job are drawn one by one, in numeric order, up to the first at which the run ends
+pub record IsRun (settings : Settings) (watched : List Observation) (asked : Asked) (report : Report) : Type 0 where
   pub end : End
-  pub ends : EndsRun job goal end
-  pub faultless : end.cause ≢ Fault
-  pub status : report.status ≡ status_of end.cause
-  pub bytes : report.bytes ≡ report_of check end
+  pub ends : EndsRun asked.job asked.goal end
+  -- what the observers say of the admitted traces
+  pub lines : List (List ℕ)
+  pub observed : AreLines asked.job asked.goal watched end lines
+  -- the step and the fault of the trace that ended the run, where one faulted
+  pub step : ℕ
+  pub fault : TraceFault
+  pub faulted : end.cause ≡ Fault → IsOutcome asked.job (end.d + end.f) (outcome.Fault step fault)
+  pub status : report.status ≡ status_of_run end.cause
+  pub bytes : report.bytes ≡ check_report settings asked.claim end step (cause_text asked.job.chain fault) lines
 
--- the report on settings and a model's text: the refusal of what is outside the form that is read, or else that of the run
-abbrev pub IsCheckReport : Check → List ℕ → Report → Type 0
-IsCheckReport check text report =
-    (IsOutside check text × (report ≡ record { status = NotThisForm; bytes = refusal_of refusal.NotThisForm })) ⊎ IsRunReport check text report
+-- the status of a trace by where it stands after its last step
+abbrev pub status_of_trace : Result Configuration TraceFault → Status
+status_of_trace (Ok last) = Accepted
+status_of_trace (Err fault) = TraceFaulted
 
--- the report of settings over files, or the refusal where the words give none
-abbrev pub IsReportOf : Option Check → Named → Report → Type 0
-IsReportOf None files report = report ≡ record { status = Usage; bytes = refusal_of refusal.Usage }
-IsReportOf (Some check) files report = IsCheckReport check (bytes_at files check.model) report
+-- the report of so many steps of the trace of this index under this seed
+pub record IsTraced (chain : Chain) (seed index steps : ℕ) (report : Report) : Type 0 where
+  pub status : report.status ≡ status_of_trace (configuration_after chain (draw_at seed index) steps)
+  pub bytes : report.bytes ≡ trace_text chain (draw_at seed index) steps
 
--- the report of words over files
-abbrev pub IsReport : List (List ℕ) → Named → Report → Type 0
-IsReport words files report = IsReportOf (settings_of words) files report
+-- what a command reports on a model's text that it doesn't refuse
+abbrev pub Reports : List Observation → Settings → List ℕ → Report → Type 0
+Reports watched (command.Check model property given seed test limit workers) text report =
+    (asked : Asked) × Asks (command.Check model property given seed test limit workers) text asked
+    × IsRun (command.Check model property given seed test limit workers) watched asked report
+Reports watched (command.Trace model given seed index steps) text report =
+    (read : Model) × IsModelOf text given read × IsTraced read.chain seed index steps report
+Reports watched command.Help text report = report ≡ record { status = Accepted; bytes = commands_line }
+
+-- what settings are answered over a model's text: the first refusal, or else the command's report
+pub data IsAnswer (watched : List Observation) (settings : Settings) (text : List ℕ) (report : Report) : Type 0 where
+  refused : (why : Reason) → Refuses settings text why → IsRefusal why report → IsAnswer watched settings text report
+  reported : Reports watched settings text report → IsAnswer watched settings text report
+
+-- the bytes of a file, if one is named; an absent file counts as an empty one
+abbrev pub bytes_of : Named → Option (List ℕ) → List ℕ
+bytes_of files None = []
+bytes_of files (Some name) = bytes_at files name
+
+-- the report of words over files: the usage line where they give no settings, or else what the settings are answered
+pub data IsReport (words : List (List ℕ)) (files : Named) (watched : List Observation) (report : Report) : Type 0 where
+  usage : ((settings : Settings) → ¬ IsSettings words settings) → IsRefusal reason.Usage report
+      → IsReport words files watched report
+  answered : (settings : Settings) → IsSettings words settings
+      → IsAnswer watched settings (bytes_of files (file_of settings)) report → IsReport words files watched report

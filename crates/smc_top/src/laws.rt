@@ -2,17 +2,21 @@
 
 ghost use Rattle.std.specs.Prelude.{◌≡◌, ℕ, List};
 ghost use Rattle.smc_io.specs.Files.{Named};
+ghost use Rattle.stop_rules.specs.Observers.{Observation};
 ghost use Rattle.smc_top.specs.Report.{IsReport};
 ghost use Rattle.smc_top.specs.declared.report.Report.{Report};
 
-use first_form::{one_model, one_property};
-use first_stop::one_end;
+use front_end::{one_model_law, one_property_law};
+use smc_settings::one_settings;
+use stop_rules::one_end;
 
-/// Law: words have at most one report over the same files.
+/// Law: words have at most one report over the same files, whatever observes the run.
 pub fn one_report()
-    ensures { (words : List (List ℕ)) (files : Named) (a b : Report) → IsReport words files a → IsReport words files b → a ≡ b }
+    ensures { (words : List (List ℕ)) (files : Named) (watched : List Observation) (a b : Report)
+        → IsReport words files watched a → IsReport words files watched b → a ≡ b }
 {
-    one_model();
-    one_property();
+    one_settings();
+    one_model_law();
+    one_property_law();
     one_end();
 }

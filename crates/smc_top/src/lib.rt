@@ -1,22 +1,20 @@
 //! The top call: it does all that the program does, from words and files to what is written.
 #![tactic(auto)]
 
+mod answering;
+mod asking;
 mod checking;
 mod gate;
-mod job;
 mod laws;
-mod line;
-mod observer;
 mod prepare;
 mod report;
-mod sampling;
 mod status;
+mod stopping;
 mod top;
+mod tracing;
 
 pub use gate::{Gate, NoGate};
 pub use laws::one_report;
-pub use line::Line;
-pub use observer::{Observer, Stay};
 pub use report::Report;
 pub use status::Status;
 pub use top::run;

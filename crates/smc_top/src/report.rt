@@ -1,8 +1,8 @@
 ghost use Rattle.std.specs.Prelude.{◌≡◌, IfOk};
-ghost use Rattle.first_report.specs.Refusals.{refusal_of};
+ghost use Rattle.smc_top.specs.Report.{IsRefusal};
 
 use crate::status::Status;
-use first_report::Refusal;
+use smc_report::{Reason, Refusal, refusal};
 use sqlite_items::Items;
 use std::alloc::{AllocError, Global};
 
@@ -14,13 +14,31 @@ pub struct Report {
 }
 
 impl Report {
-    /// The line of a refusal, with its status.
-    pub fn refused(alloc: Global, status: Status, refusal: Refusal) -> Result<Report, AllocError>
-        ensures { IfOk result (λ report. report ≡ record { status = status; bytes = refusal_of refusal }) }
+    /// The report with these bytes.
+    pub(crate) fn new(status: Status, bytes: Vec<u8>) -> Report
+        ensures { result ≡ record { status = status; bytes = bytes.items } }
     {
-        Ok(Report {
+        Report {
             status,
-            bytes: Items::from_vec(first_report::refusal(alloc, &refusal)?),
-        })
+            bytes: Items::from_vec(bytes),
+        }
+    }
+
+    /// The report of a refusal.
+    pub(crate) fn refused(alloc: Global, why: &Refusal) -> Result<Report, AllocError>
+        ensures { IfOk result (IsRefusal why.now) }
+    {
+        let line = refusal(alloc, why)?;
+        Ok(Report::new(Status::of_refusal(why), line))
+    }
+
+    /// The report of a refusal for this reason, or want of memory, where the reason is that.
+    pub(crate) fn refused_for(alloc: Global, reason: Reason) -> Result<Report, AllocError>
+        ensures { IfOk result (IsRefusal reason) }
+    {
+        match Refusal::new(reason) {
+            Ok(refusal) => Report::refused(alloc, &refusal),
+            Err(error) => Err(error),
+        }
     }
 }

@@ -1,12 +1,17 @@
 ghost use Rattle.std.specs.Prelude.{◌≡◌};
+ghost use Rattle.smc_report.specs.Refusals.{status_of};
 ghost use Rattle.smc_top.specs.Codes.{code_of};
+ghost use Rattle.smc_top.specs.Report.{status_of_run};
+
+use smc_report::Refusal;
+use stop_rules::Cause;
 
 /// How the program ends.
 #[derive(Clone, Copy, Debug, PartialEq, Eq)]
 pub enum Status {
-    /// The run accepts the hypothesis, or another command is done.
+    /// The run accepts the claim, or another command is done.
     Accepted,
-    /// The run rejects the hypothesis.
+    /// The run rejects the claim.
     Rejected,
     /// The run ends at the limit, or too close to a boundary to decide; the report says which.
     Undecided,
@@ -26,8 +31,6 @@ pub enum Status {
     WriteFault,
     /// Memory ran out; nothing was written.
     OutOfMemory,
-    /// The texts are outside the form that is read so far.
-    NotThisForm,
 }
 
 impl Status {
@@ -47,7 +50,31 @@ impl Status {
             Status::TraceFault => 8,
             Status::WriteFault => 9,
             Status::OutOfMemory => 10,
-            Status::NotThisForm => 11,
+        }
+    }
+
+    /// The status of a refusal.
+    pub(crate) fn of_refusal(refusal: &Refusal) -> Status
+        ensures { code_of result ≡ status_of refusal.now }
+    {
+        match refusal.status() {
+            3 => Status::Usage,
+            4 => Status::ReadFault,
+            5 => Status::ModelRefused,
+            6 => Status::PropertyRefused,
+            _ => Status::SettingsRefused,
+        }
+    }
+
+    /// The status of a run with this cause.
+    pub(crate) fn of_run(cause: Cause) -> Status
+        ensures { result ≡ status_of_run cause }
+    {
+        match cause {
+            Cause::Accept => Status::Accepted,
+            Cause::Reject => Status::Rejected,
+            Cause::Close | Cause::Limit => Status::Undecided,
+            Cause::Fault => Status::TraceFault,
         }
     }
 }

@@ -1,17 +1,11 @@
--- A job and a goal have the report of their run.
-use Rattle.std.proofs.Common.{◌≡◌, ◌∙◌, ap, inr}
-use Rattle.smc_top.specs.Report.{IsCheckReport, IsRunReport}
+-- What is asked is answered with the report of its run, and a stop with its refusal.
+use Rattle.smc_top.proofs.AnswerLemmas.{of_each, run_answers, stop_answers}
 use Rattle.smc_top.proofs.checking.check.Goals as goal
 
-pub returns-clause-report : goal.returns-clause-report
-returns-clause-report c = inr (record {
-  job = c.in-Some.job;
-  is_job = rw c.in-Some.is at c.in_ok-job.ensures;
-  goal = c.in-Some-goal.goal;
-  is_goal = c.in-Some-goal.ensures;
-  end = c.draw-end.result;
-  ends = c.draw-end.ensures.ends;
-  faultless = c.draw-end.ensures.faultless;
-  status = c.status.ensures.value;
-  bytes = c.from_vec.ensures ∙ c.in_ok-report.ensures;
-})
+pub returns-in-Ok : goal.returns-in-Ok
+returns-in-Ok g c =
+    of_each _ _ c.sampled-answer.result (run_answers _ c.args.settings.now c.args.text.now c.in-Ok.asked c.requires.check c.in-Ok.ensures.asked) c.sampled-answer.ensures
+
+pub returns-in-Err : goal.returns-in-Err
+returns-in-Err g c =
+    of_each _ _ c.stopped.result (stop_answers _ c.args.settings.now c.args.text.now c.in-Err.stop c.in-Err.ensures.refused) c.stopped.ensures

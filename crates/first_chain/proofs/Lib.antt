@@ -1,5 +1,0 @@
-pub mod OutcomeLemmas
-pub mod ChoiceLemmas
-pub mod BranchLemmas
-pub mod StepLemmas
-pub mod SettlingLemmas

@@ -1,9 +1,0 @@
-pub mod Words
-pub mod Tokens
-pub mod Model
-pub mod Property
-pub mod Pieces
-pub mod Front
-pub mod Reads
-pub mod Modules
-pub mod Queries

@@ -1,3 +1,0 @@
-pub mod ChoiceFacts
-pub mod StepFacts
-pub mod TraceFacts
