@@ -8,6 +8,8 @@ mod numbers;
 mod scopes;
 mod sorts;
 mod tables;
+#[cfg(test)]
+mod tests;
 mod trees;
 
 pub use copying::copy_tree;
