@@ -112,41 +112,43 @@ pub and_parts : (a b : Bool) → (a && b) ≡ true → (a ≡ true) × (b ≡ tr
 and_parts true b is = (refl, is)
 and_parts false b is = absurd (cc)
 
--- after a whole number, or a fault, the rest of a chain of arithmetic
-links_whole : (so_far : WholeResult) (xs : List Valued) (ops : List Op) → Limited so_far → AllWhole xs → list_all is_arithmetic ops ≡ true
-    → (as_number so_far >>= λ a. links_value a xs ops) ≡ as_whole (wholes_after so_far (map stored_of xs) ops)
+-- after a whole number the rest of a chain of arithmetic
+abbrev Links : List Valued → List Op → Type 0
+Links xs ops = (a : ℤ) → nat_lt (unsigned_abs a) limit ≡ true → links_value (numbered a) xs ops ≡ as_whole (wholes_after a (map stored_of xs) ops)
+
+links_whole : (a : ℤ) (xs : List Valued) (ops : List Op) → nat_lt (unsigned_abs a) limit ≡ true → AllWhole xs → list_all is_arithmetic ops ≡ true
+    → links_value (numbered a) xs ops ≡ as_whole (wholes_after a (map stored_of xs) ops)
 unfolding AllWhole as_whole
-links_whole (Ok a) [] [] (inside b small) all are = sym (as_whole_small a small)
-links_whole (Ok a) [] (op ∷ ops) (inside b small) all are = sym (as_whole_small a small)
-links_whole (Ok a) (x ∷ xs) [] (inside b small) all are = sym (as_whole_small a small)
-links_whole (Err f) [] [] (outside g) all are = refl
-links_whole (Err f) [] (op ∷ ops) (outside g) all are = refl
-links_whole (Err f) (x ∷ xs) [] (outside g) all are = refl
-links_whole (Err f) (x ∷ xs) (op ∷ ops) (outside g) all are =
-    links_whole (Err f) xs ops (outside f) all.1 (and_parts (is_arithmetic op) (list_all is_arithmetic ops) are).1
-links_whole (Ok a) (x ∷ xs) (op ∷ ops) (inside b small) all are = here x all.0 (λ r lim. links_whole r xs ops lim all.1 so.1)
+links_whole a [] [] small all are = sym (as_whole_small a small)
+links_whole a [] (op ∷ ops) small all are = sym (as_whole_small a small)
+links_whole a (x ∷ xs) [] small all are = sym (as_whole_small a small)
+links_whole a (x ∷ xs) (op ∷ ops) small all are = here x all.0 (λ b is. links_whole b xs ops is all.1 so.1)
   where
     so : (is_arithmetic op ≡ true) × (list_all is_arithmetic ops ≡ true)
     so = and_parts (is_arithmetic op) (list_all is_arithmetic ops) are
 
-    here : (x : Valued) → WholeValued x
-        → ((r : WholeResult) → Limited r → (as_number r >>= λ y. links_value y xs ops) ≡ as_whole (wholes_after r (map stored_of xs) ops))
-        → (join op (numbered a) x >>= λ y. links_value y xs ops) ≡ as_whole (wholes_after (linked_whole op (Ok a) (stored_of x)) (map stored_of xs) ops)
-    here (Err f) (whole_fault g) more = ap (λ (z : Valued). z >>= λ y. links_value y xs ops) (joined_fault op a f so.0) ∙ more (Err f) (outside f)
+    after : (r : WholeResult) → Limited r → Links xs ops
+        → (as_number r >>= λ y. links_value y xs ops) ≡ as_whole (r >>= λ b. wholes_after b (map stored_of xs) ops)
+    after (Ok b) (inside c is) more = more b is
+    after (Err f) (outside g) more = refl
+
+    here : (x : Valued) → WholeValued x → Links xs ops
+        → (join op (numbered a) x >>= λ y. links_value y xs ops) ≡ as_whole (linked_whole op a (stored_of x) >>= λ b. wholes_after b (map stored_of xs) ops)
+    here (Err f) (whole_fault g) more = ap (λ (z : Valued). z >>= λ y. links_value y xs ops) (joined_fault op a f so.0)
     here (Ok (v.Bool b)) p more = elim p [ ]
     here (Ok (v.Num y)) (whole_number n is) more =
-        ap (λ (z : Valued). z >>= λ y. links_value y xs ops) (joined_whole op a n so.0) ∙ more (whole_result op a n) (result_is op a n)
+        ap (λ (z : Valued). z >>= λ y. links_value y xs ops) (joined_whole op a n so.0) ∙ after (whole_result op a n) (result_is op a n) more
 
 -- a chain of arithmetic
 pub arithmetic_law : (x : Valued) (xs : List Valued) (ops : List Op) → AllWhole (x ∷ xs) → list_all is_arithmetic ops ≡ true
     → level_value (x ∷ xs) ops ≡ as_whole (wholes_result (map stored_of (x ∷ xs)) ops)
-unfolding AllWhole
+unfolding AllWhole as_whole
 arithmetic_law x xs ops all are = here x all.0
   where
     here : (x : Valued) → WholeValued x → level_value (x ∷ xs) ops ≡ as_whole (wholes_result (stored_of x ∷ map stored_of xs) ops)
-    here (Err f) (whole_fault g) = links_whole (Err f) xs ops (outside f) all.1 are
+    here (Err f) (whole_fault g) = refl
     here (Ok (v.Bool b)) p = elim p [ ]
-    here (Ok (v.Num y)) (whole_number n is) = links_whole (Ok n) xs ops (inside n is) all.1 are
+    here (Ok (v.Num y)) (whole_number n is) = links_whole n xs ops is all.1 are
 
 -- ---- comparisons
 

@@ -11,7 +11,6 @@ use Rattle.chain_model.specs.declared.values.Value.TheVariants as v
 use Rattle.chain_model.specs.declared.expressions.Op.{Op}
 use Rattle.chain_model.specs.declared.expressions.Func.{Func}
 use Rattle.chain_model.specs.States.{State}
-use Rattle.chain_model.specs.Step.{stored}
 use Rattle.chain_model.specs.Values.{Valued, call_value}
 use Rattle.guard_code.specs.declared.nodes.Node.{Node}
 use Rattle.guard_code.specs.declared.nodes.Node.TheVariants as n
@@ -133,24 +132,6 @@ whole_of_if node condition first second is p q =
           ∙ choice_again (truth_of (node_value labels state condition)) (node_value labels state first) (node_value labels state second) (p.same labels state small) (q.same labels state small)
           ∙ ap (λ x. as_whole (stored_of x)) (sym (value-if labels state condition first second));
     })
-
--- a conditional that picks one of two whole numbers by a plain test
-picked : (h : Bool) (a b : Value) → Ok a ≡ as_whole (stored_of (Ok a)) → Ok b ≡ as_whole (stored_of (Ok b))
-    → as_whole (Ok (if h then stored a else stored b)) ≡ choice_value (truth_of (Ok (v.Bool h))) (Ok a) (Ok b)
-picked true a b p q = sym p
-picked false a b p q = sym q
-
-pub plain_if_is : (test : Test) (a b : Value) (condition first second : Node) → condition ≡ n.Plain test → first ≡ n.Lit a → second ≡ n.Lit b
-    → Ok a ≡ as_whole (stored_of (Ok a)) → Ok b ≡ as_whole (stored_of (Ok b))
-    → Always (λ labels state. node_value labels state (n.PlainIf test (stored a) (stored b))
-    ≡ choice_value (truth_of (node_value labels state condition)) (node_value labels state first) (node_value labels state second))
-plain_if_is test a b condition first second c x y p q = λ labels state small.
-    let condition_is : node_value labels state condition ≡ Ok (v.Bool (test_holds state test)) = ap (node_value labels state) c ∙ value-plain labels state test in
-    let first_is : node_value labels state first ≡ Ok a = ap (node_value labels state) x ∙ value-lit labels state a in
-    let second_is : node_value labels state second ≡ Ok b = ap (node_value labels state) y ∙ value-lit labels state b in
-    value-plain_if labels state test (stored a) (stored b)
-    ∙ picked (test_holds state test) a b p q
-    ∙ sym (λ i. choice_value (truth_of (condition_is i)) (first_is i) (second_is i))
 
 pub whole_literal : (value : Value) (x : Fraction) → value ≡ v.Num x → x.den ≡ 1 → IsFrac x → Ok value ≡ as_whole (stored_of (Ok value))
 whole_literal value x is one lowest =

@@ -47,18 +47,19 @@ whole_result o.Sub a b = limited (a -ℤ b)
 whole_result o.Mul a b = limited (a *ℤ b)
 whole_result _ a b = limited (a +ℤ b)
 
--- a chain of whole numbers, folded from the left: so far, and joined to the next part
-abbrev pub linked_whole : Op → WholeResult → WholeResult → WholeResult
-linked_whole op so_far part = so_far >>= λ a. part >>= λ b. whole_result op a b
+-- a whole number joined to the next part of its chain
+abbrev pub linked_whole : Op → ℤ → WholeResult → WholeResult
+linked_whole op a part = part >>= λ b. whole_result op a b
 
-abbrev pub wholes_after : WholeResult → List WholeResult → List Op → WholeResult
-wholes_after so_far parts [] = so_far
-wholes_after so_far [] (op ∷ ops) = so_far
-wholes_after so_far (part ∷ parts) (op ∷ ops) = wholes_after (linked_whole op so_far part) parts ops
+-- a chain of whole numbers is folded from the left
+abbrev pub wholes_after : ℤ → List WholeResult → List Op → WholeResult
+wholes_after a [] ops = Ok a
+wholes_after a (part ∷ parts) [] = Ok a
+wholes_after a (part ∷ parts) (op ∷ ops) = linked_whole op a part >>= λ b. wholes_after b parts ops
 
 abbrev pub wholes_result : List WholeResult → List Op → WholeResult
 wholes_result [] ops = Ok (pos 0)
-wholes_result (part ∷ parts) ops = wholes_after part parts ops
+wholes_result (part ∷ parts) ops = part >>= λ a. wholes_after a parts ops
 
 -- the one of two whole numbers that `max` chooses, or `min`
 abbrev pub chosen_whole : Func → ℤ → ℤ → ℤ

@@ -15,6 +15,7 @@ use chain_values::{as_value, both_result, left_result};
 use smc_num::Frac;
 
 /// How the two parts of a comparison compare.
+#[inline(never)]
 #[cycle(evaluation)]
 pub fn compare<L: BuiltInLabels>(
     labels: &L,
@@ -50,6 +51,7 @@ pub fn quotient<L: BuiltInLabels>(
 }
 
 /// A chain of whole numbers, folded from the left.
+#[inline(never)]
 #[cycle(evaluation)]
 pub fn arithmetic<L: BuiltInLabels>(
     labels: &L,
@@ -62,29 +64,38 @@ pub fn arithmetic<L: BuiltInLabels>(
     let [first, ..] = parts else {
         return Ok(0);
     };
-    let mut number = stored_in(labels, state, first);
+    let mut number = match stored_in(labels, state, first) {
+        Ok(number) => number,
+        Err(fault) => return Err(fault),
+    };
     for (index, op) in ops.iter().enumerate() {
-        if index + 1 < parts.len() {
-            number = link(labels, state, *op, number, &parts[index + 1]);
+        if index + 1 >= parts.len() {
+            return Ok(number);
         }
+        number = match link(labels, state, *op, number, &parts[index + 1]) {
+            Ok(next) => next,
+            Err(fault) => return Err(fault),
+        };
     }
-    number
+    Ok(number)
 }
 
 /// A whole number joined to the next part of its chain.
+#[inline(always)]
 #[cycle(evaluation)]
 fn link<L: BuiltInLabels>(
     labels: &L,
     state: &[i64],
     op: Op,
-    so_far: Result<i64, TraceFault>,
+    left: i64,
     part: &Node,
 ) -> Result<i64, TraceFault>
-    ensures { result ≡ linked_whole op so_far (stored_of (node_value (L.values labels.now) state.now part.now)) }
+    ensures { result ≡ linked_whole op left (stored_of (node_value (L.values labels.now) state.now part.now)) }
 {
-    let left = so_far?;
-    let right = stored_in(labels, state, part)?;
-    whole_result(op, left, right)
+    match stored_in(labels, state, part) {
+        Ok(right) => whole_result(op, left, right),
+        Err(fault) => Err(fault),
+    }
 }
 
 /// The truth value of parts that are read up to the first with the deciding one.

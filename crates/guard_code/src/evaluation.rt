@@ -77,7 +77,6 @@ pub fn compound_truth<L: BuiltInLabels>(
     ensures { result ≡ truth_of (node_value (L.values labels.now) state.now node.now) }
 {
     match node {
-        Node::Compare(op, parts) => compare(labels, state, *op, parts.as_slice()),
         Node::Junction(deciding, parts) => junction(labels, state, *deciding, parts.as_slice()),
         Node::Not(part) => {
             let holds = truth_in(labels, state, part.get())?;
@@ -112,12 +111,6 @@ pub fn compound_number<L: BuiltInLabels>(
         }
         Node::Extreme(func, parts) => stored_whole(extreme(labels, state, *func, parts.as_slice())),
         Node::Remainder(parts) => stored_whole(remainder(labels, state, parts.as_slice())),
-        Node::Arithmetic(parts, ops) => stored_whole(arithmetic(
-            labels,
-            state,
-            parts.as_slice(),
-            ops.as_slice(),
-        )),
         Node::If(condition, first, second) => {
             if truth_in(labels, state, condition.get())? {
                 stored_in(labels, state, first.get())

@@ -4,6 +4,7 @@ ghost use Rattle.std.specs.Prelude.{◌≡◌};
 ghost use Rattle.guard_code.specs.Wholes.{truth_of, stored_of};
 ghost use Rattle.guard_code.specs.Nodes.{node_value};
 
+use crate::chains::{arithmetic, compare};
 use crate::evaluation::{compound_number, compound_truth};
 use crate::labels::BuiltInLabels;
 use crate::nodes::Node;
@@ -27,6 +28,7 @@ pub fn truth_in<L: BuiltInLabels>(
         Node::Plain(test) => Ok(test_holds(state, test)),
         Node::Every(tests) => Ok(all_hold(state, tests.as_slice())),
         Node::Any(tests) => Ok(some_holds(state, tests.as_slice())),
+        Node::Compare(op, parts) => compare(labels, state, *op, parts.as_slice()),
         _ => compound_truth(labels, state, node),
     }
 }
@@ -49,6 +51,12 @@ pub fn stored_in<L: BuiltInLabels>(
         Node::PlainIf(test, first, second) => {
             stored_whole(Ok(number_by(state, test, *first, *second)))
         }
+        Node::Arithmetic(parts, ops) => stored_whole(arithmetic(
+            labels,
+            state,
+            parts.as_slice(),
+            ops.as_slice(),
+        )),
         _ => compound_number(labels, state, node),
     }
 }

@@ -9,6 +9,8 @@ use crate::evaluation::value;
 use crate::fronts::{stored_in, truth_in};
 use crate::labels::NoLabels;
 use crate::nodes::Node;
+use crate::plain_tests::{all_hold, some_holds};
+use crate::results::stored_truth;
 use chain_model::{TraceFault, Value};
 
 /// Whether a guard holds in a state.
@@ -32,5 +34,9 @@ pub fn weight_value(weight: &Node, state: &[i64]) -> Result<Value, TraceFault>
 pub fn assigned_number(side: &Node, state: &[i64]) -> Result<i64, TraceFault>
     ensures { result ≡ stored_of (node_value no_labels state.now side.now) }
 {
-    stored_in(&NoLabels, state, side)
+    match side {
+        Node::Every(tests) => stored_truth(Ok(all_hold(state, tests.as_slice()))),
+        Node::Any(tests) => stored_truth(Ok(some_holds(state, tests.as_slice()))),
+        _ => stored_in(&NoLabels, state, side),
+    }
 }

@@ -1,5 +1,5 @@
 -- A chain of one operator that divides a whole number by another.
-use Rattle.std.proofs.Common.{sym, ◌∙◌, get_or, arith}
+use Rattle.std.proofs.Common.{get_or, arith}
 use Rattle.chain_model.specs.declared.expressions.Op.TheVariants as o
 use Rattle.guard_code.proofs.KindLemmas.{whole_quotient}
 use Rattle.guard_code.proofs.JoinLemmas.{only_one}
