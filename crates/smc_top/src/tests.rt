@@ -1,7 +1,11 @@
 //! Runs over files and a sink in memory, against tables of values from outside.
 
+mod limits;
 mod models;
+mod outside;
 mod refusals;
+mod reports;
+mod seeds;
 mod traces;
 mod words;
 
