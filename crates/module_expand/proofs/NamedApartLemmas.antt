@@ -20,7 +20,7 @@ use Rattle.module_expand.specs.Refusals.{LeavesOutNone}
 use Rattle.module_expand.proofs.FirstLemmas.{not_none, some_same, some_or_none, find-at_position, find-no_position}
 use Rattle.module_expand.proofs.DistinctLemmas.{values_apart, titles_apart, labels_apart}
 
-same_names : {X : Type 0} (name : X → Name) (change : X → X) → ((x : X) → name (change x) ≡ name x) → (xs : List X)
+pub same_names : {X : Type 0} (name : X → Name) (change : X → X) → ((x : X) → name (change x) ≡ name x) → (xs : List X)
     → map name (map change xs) ≡ map name xs
 same_names name change same [] = refl
 same_names name change same (x ∷ xs) = λ i. same x i ∷ same_names name change same xs i
@@ -49,7 +49,7 @@ name_of_place (w ∷ vs) zero v at = ap (λ w. Some w.name) (some_same w v at)
 name_of_place (w ∷ vs) (suc j) v at = name_of_place vs j v at
 
 -- a module of the flat text declares what the model's module declares
-module_names : (modules : List Module) (by : Name → Option Expr) → LeavesOutNone modules → (k : ℕ) (d : Module)
+pub module_names : (modules : List Module) (by : Name → Option Expr) → LeavesOutNone modules → (k : ℕ) (d : Module)
     → slice_get modules k ≡ Some d
     → map (λ v. v.name) (variables_of (flat_module modules by d)) ≡ declared_by modules d
 module_names modules by left k (Written title vars commands) at =
@@ -94,7 +94,7 @@ all_names : (g h : Module → List Name) (change : Module → Module) (ms : List
 all_names g h change [] same = refl
 all_names g h change (m ∷ ms) same = λ i. same zero m refl i ++ all_names g h change ms (λ k d at. same (suc k) d at) i
 
-title_stays : (modules : List Module) (by : Name → Option Expr) (m : Module) → title_of (flat_module modules by m)
+pub title_stays : (modules : List Module) (by : Name → Option Expr) (m : Module) → title_of (flat_module modules by m)
     ≡ title_of m
 title_stays modules by (Written title vars commands) = refl
 title_stays modules by (Renamed title source pairs) = refl
