@@ -20,6 +20,7 @@ use trace_streams::Draws;
 
 /// What trace number `trace` of a job says of the path formula: the value at the first of its states at which it is
 /// settled, or the fault that came first. It takes no memory.
+#[inline(never)]
 pub fn outcome(job: &Job, trace: u64, work: &mut TraceWork) -> Outcome
     requires { IsMadeFor job.now work.old }
     ensures outcome { IsOutcome job.now trace result }

@@ -115,19 +115,23 @@ stands_before numbers n holds (Err fault) = refl
 stands_before numbers n true (Ok o) = ap Ok (sym (append_assoc numbers (n ∷ []) o))
 stands_before numbers n false (Ok o) = ap (λ ls. Ok (ls ++ o)) (sym (append-nil numbers))
 
+-- the numbers of the bytes up to one more
+pub numbers_next : (bytes : List ℕ) (i byte : ℕ) (holds : Bool) → i < length bytes → is_set 0 byte ≡ holds
+    → numbers_with 0 0 (take (i + 1) (set bytes i byte)) ≡ numbers_with 0 0 (take i bytes) ++ cond holds (i ∷ []) []
+numbers_next bytes i byte holds room bit =
+    ap (numbers_with 0 0) (take_more_set bytes i byte room) ∙ numbers_more 0 (take i bytes) byte
+    ∙ ap (λ k. numbers_with 0 0 (take i bytes) ++ cond (is_set 0 byte) (k ∷ []) []) (omega (arith, length-take i bytes, room))
+    ∙ ap (λ b. numbers_with 0 0 (take i bytes) ++ cond b (i ∷ []) []) bit
+
 -- one guard further
 pub guards_next : (state : State) (guards : List Node) (i : ℕ) (guard : Node) (holds : Bool) (bytes : List ℕ) (byte : ℕ) (whole : Result (List ℕ) TraceFault)
     → i < length guards → i < length bytes → guard ≡ get_or guards i guard → truth_of (node_value no_labels state guard) ≡ Ok holds → is_set 0 byte ≡ holds
     → prepend (numbers_with 0 0 (take i bytes)) (enabled_by i state (drop i guards)) ≡ whole
     → prepend (numbers_with 0 0 (take (i + 1) (set bytes i byte))) (enabled_by (i + 1) state (drop (i + 1) guards)) ≡ whole
 guards_next state guards i guard holds bytes byte whole lt room is value bit so =
-    let long : 0 + length (take i bytes) ≡ i = omega (arith, length-take i bytes, room) in
     let numbers : List ℕ = numbers_with 0 0 (take i bytes) in
     let others : Result (List ℕ) TraceFault = enabled_by (suc i) state (drop (i + 1) guards) in
-    ap (λ ls. prepend (numbers_with 0 0 ls) (enabled_by (i + 1) state (drop (i + 1) guards))) (take_more_set bytes i byte room)
-    ∙ ap (λ ls. prepend ls (enabled_by (i + 1) state (drop (i + 1) guards))) (numbers_more 0 (take i bytes) byte)
-    ∙ ap (λ k. prepend (numbers ++ cond (is_set 0 byte) (k ∷ []) []) (enabled_by (i + 1) state (drop (i + 1) guards))) long
-    ∙ ap (λ b. prepend (numbers ++ cond b (i ∷ []) []) (enabled_by (i + 1) state (drop (i + 1) guards))) bit
+    ap (λ ls. prepend ls (enabled_by (i + 1) state (drop (i + 1) guards))) (numbers_next bytes i byte holds room bit)
     ∙ ap (λ k. prepend (numbers ++ cond holds (i ∷ []) []) (enabled_by k state (drop (i + 1) guards))) (add-one i)
     ∙ sym (stands_before numbers i holds others)
     ∙ ap (λ (r : TruthResult). prepend numbers (r >>= λ h. others >>= λ o. Ok (cond h (i ∷ o) o))) (sym value)

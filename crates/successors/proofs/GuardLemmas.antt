@@ -83,7 +83,7 @@ pub written : (n : ℕ) (xs rest : List ℕ) → n ≡ length xs → take n (xs 
 written n xs rest is = take-append-le n xs rest (omega (arith, is)) ∙ take_all n xs (omega (arith, is))
 
 -- what writing the bytes tells of the commands, or of the choices
-pub filled : (chain : Chain) (state : State) (nodes : List Node) (bytes : List ℕ) (result : Result (Unit {0}) TraceFault) → AreGuardNodes chain.commands nodes → IsSmall state
+pub filled : {X : Type 0} (chain : Chain) (state : State) (nodes : List Node) (bytes : List ℕ) (result : Result X TraceFault) → AreGuardNodes chain.commands nodes → IsSmall state
     → length bytes ≡ length chain.commands
     → MatchResult result (λ done. enabled_by 0 state nodes ≡ Ok (numbers_with 0 0 bytes)) (λ fault. enabled_by 0 state nodes ≡ Err fault)
     → OnOk result (AreGuards chain state 0 bytes) × IfErr result (λ fault. choices_of chain state ≡ Err fault)

@@ -6,8 +6,10 @@ pub mod FirstLemmas
 pub mod PartitionLemmas
 pub mod SideLemmas
 pub mod WeightLemmas
+pub mod ShareLemmas
 pub mod CommandLemmas
 pub mod TakingLemmas
 pub mod MoveLemmas
+pub mod SoleLemmas
 pub mod GuardLemmas
 pub mod FixedLemmas

@@ -3,6 +3,8 @@ use Rattle.std.specs.Prelude.{◌≡◌, ℕ, suc, ◌/◌, ◌%◌, ◌^◌, �
 use Rattle.chain_model.specs.declared.chain.Chain.{Chain}
 use Rattle.chain_model.specs.States.{State}
 use Rattle.chain_model.specs.Choices.{enabled_from}
+use Rattle.successors.specs.declared.found.Found.{Found}
+use Rattle.successors.specs.declared.found.Found.TheVariants as f
 
 -- a byte has the bit of a lane
 abbrev pub is_set : ℕ → ℕ → Bool
@@ -22,3 +24,9 @@ numbers_with lane number (byte ∷ bytes) =
 pub record AreGuards (chain : Chain) (state : State) (lane : ℕ) (bytes : List ℕ) : Type 0 where
   pub long : length bytes ≡ length chain.commands
   pub enabled : enabled_from 0 state chain.commands ≡ Ok (numbers_with lane 0 bytes)
+
+-- what is found of enabled commands: there is none, there is this one alone, or nothing more is said
+abbrev pub IsFound : Found → List ℕ → Type 0
+IsFound f.Nothing numbers = numbers ≡ []
+IsFound (f.One number) numbers = numbers ≡ number ∷ []
+IsFound f.Several numbers = Unit

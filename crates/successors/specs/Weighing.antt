@@ -1,6 +1,7 @@
 -- What a command's weights say of the branch that it takes.
-use Rattle.std.specs.Prelude.{◌≡◌, ◌==◌, ℕ, ◌<◌, ◌^◌, List, [], ◌∷◌, length, not, nat_lt, sum, Result, Ok}
+use Rattle.std.specs.Prelude.{◌≡◌, ◌==◌, ℕ, ◌<◌, ◌≤◌, ◌^◌, List, [], ◌∷◌, length, not, nat_lt, sum, Result, Ok}
 use Rattle.smc_num.specs.Fraction.{Fraction}
+use Rattle.trace_streams.specs.Pick.{pick_of}
 use Rattle.chain_model.specs.declared.outcome.TraceFault.{TraceFault}
 use Rattle.chain_model.specs.declared.outcome.TraceFault.TheVariants.{Weights, Denominator}
 use Rattle.chain_model.specs.declared.chain.Chain.{Chain}
@@ -36,6 +37,14 @@ weighed_branch draw position command weights = do
   refuse_if (nat_lt most_weight_denominator (denominator_of weights)) (Denominator command)
   refuse_if (not (sum (numerators_of weights) == denominator_of weights)) (Weights command)
   Ok (branch_number draw position weights)
+
+-- two weights say the first branch exactly where a draw picks one of the first so many of so many parts
+pub record IsShare (weights : List Fraction) (share whole : ℕ) : Type 0 where
+  pub two : length weights ≡ 2
+  pub some : 0 < whole
+  pub few : whole ≤ 2 ^ 48
+  pub branch : (draw : ℕ → ℕ) (position command : ℕ) → pick_of (draw position) whole < whole
+      → weighed_branch draw position command weights ≡ Ok (first_above (pick_of (draw position) whole) (share ∷ []))
 
 -- a command takes its first branch without a draw, whatever the state
 pub record IsCertain (chain : Chain) (command : ℕ) : Type 0 where

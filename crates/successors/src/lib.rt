@@ -7,6 +7,7 @@ mod counting;
 mod decoding;
 mod first;
 mod fixed;
+mod found;
 mod guards;
 mod lanes;
 mod moving;

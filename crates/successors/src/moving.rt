@@ -1,12 +1,13 @@
 //! A move from a state: a choice is drawn, and then the branches of its commands, whose assignments are made.
 
-ghost use Rattle.std.specs.Prelude.{◌≡◌, ◌+◌, ◌<◌, ◌≤◌, ◌^◌, ◌↔◌, [], All, OnErr, Ok, Some, length, slice_get, take};
+ghost use Rattle.std.specs.Prelude.{◌≡◌, ◌+◌, ◌<◌, ◌≤◌, ◌^◌, ◌↔◌, [], ◌∷◌, true, All, IfSome, OnErr, Ok, Some, length, slice_get, take};
 ghost use Rattle.trace_streams.specs.Draws.{draw_at};
 ghost use Rattle.chain_model.specs.States.{IsState};
-ghost use Rattle.chain_model.specs.Choices.{choices_of};
+ghost use Rattle.chain_model.specs.Chain.{is_unlabelled};
+ghost use Rattle.chain_model.specs.Choices.{choices_of, command_is};
 ghost use Rattle.chain_model.specs.Step.{draws_for};
 ghost use Rattle.guard_code.specs.Tests.{IsSmall};
-ghost use Rattle.successors.specs.Enabled.{is_enabled, AreGuards};
+ghost use Rattle.successors.specs.Enabled.{is_enabled, numbers_with, AreGuards, IsFound};
 ghost use Rattle.successors.specs.Partition.{choice_lists};
 ghost use Rattle.successors.specs.Commands.{AreCommands};
 ghost use Rattle.successors.specs.Steppers.{IsPlan, IsRoom};
@@ -16,11 +17,12 @@ use crate::assigning::assign_choice;
 use crate::commands::Command;
 use crate::decoding::write_choice;
 use crate::first::first_choice;
+use crate::found::Found;
 use crate::plan::{Plan, Room};
 use crate::taking::write_branches;
 use chain_model::{Chain, TraceFault};
 use smc_num::Frac;
-use trace_meaning::drawn_number;
+use trace_meaning::{drawn_number, has_no_action};
 use trace_streams::Draws;
 
 /// Whether a choice was taken. A state without one stays as it is for ever.
@@ -75,6 +77,7 @@ fn choose(
 }
 
 /// Takes the branches of commands, by the draws from where they stand, and makes their assignments.
+#[inline(always)]
 fn take_commands(
     commands: &[Command],
     chain: &Chain,
@@ -171,8 +174,46 @@ fn take_choice(
     )
 }
 
+/// Takes the command that is the choice of a step, for which nothing is drawn.
+#[inline(always)]
+fn take_sole(
+    plan: &Plan,
+    chain: &Chain,
+    command: u32,
+    room: &mut Room,
+    state: &mut [i64],
+    draws: &mut Draws,
+) -> Result<(), TraceFault>
+    requires plan { IsPlan chain.now plan.now }
+    requires room { IsRoom chain.now plan.now room.old }
+    requires state { IsState chain.now state.old }
+    requires taken { commands_taken chain.now (draw_at draws.old.seed draws.old.trace) state.old draws.old.place
+        ≡ Ok (command ∷ [], draws.old.place) }
+    requires place { draws.old.place + 65 ≤ 2 ^ 62 }
+    ensures step { came result state.new draws.new.place
+        ≡ next_of chain.now (draw_at draws.old.seed draws.old.trace)
+        (record { state = state.old; position = draws.old.place }) }
+    ensures stays { OnErr result (state.new ≡ state.old) }
+    ensures keeps { IsState chain.now state.new }
+    ensures forward { draws.old.place ≤ draws.new.place }
+    ensures stream { draws.new ≡ record draws.old { place = draws.new.place } }
+    ensures room { IsRoom chain.now plan.now room.new }
+{
+    take_commands(
+        plan.commands.as_slice(),
+        chain,
+        &[command],
+        &mut room.branches,
+        &mut room.weights,
+        &mut room.next,
+        state,
+        draws,
+    )
+}
+
 /// A move by the bits of a lane, which say which commands are enabled. After a fault the draws may stand further on.
-fn try_move(
+#[inline(never)]
+fn move_by_bytes(
     plan: &Plan,
     chain: &Chain,
     enabled: &[u8],
@@ -216,11 +257,35 @@ fn try_move(
     }
 }
 
-/// A move by the bits of a lane, which say which commands are enabled. After a fault the state and the draws are as
-/// they were.
-pub fn make_move(
+/// The one choice of a state, where it is known from what was found of the enabled commands: a command without an action
+/// that alone is enabled, in a chain without actions.
+#[inline(always)]
+fn sole_choice(chain: &Chain, found: Found) -> Option<u32>
+    ensures { IfSome result (λ command. (chain.now.actions ≡ []) × (found ≡ Found.One command)
+        × (command_is is_unlabelled chain.now.commands command ≡ true)) }
+{
+    let [] = chain.actions.as_slice() else {
+        return None;
+    };
+    match found {
+        Found::One(command) => {
+            if has_no_action(chain.commands.as_slice(), command) {
+                Some(command)
+            } else {
+                None
+            }
+        }
+        Found::Nothing | Found::Several => None,
+    }
+}
+
+/// A move by what was found of the enabled commands or, where that doesn't say the choice, by the bits of a lane. After
+/// a fault the draws may stand further on.
+#[inline(always)]
+fn try_move(
     plan: &Plan,
     chain: &Chain,
+    found: Found,
     enabled: &[u8],
     lane: u32,
     room: &mut Room,
@@ -231,6 +296,45 @@ pub fn make_move(
     requires room { IsRoom chain.now plan.now room.old }
     requires guards { AreGuards chain.now state.old lane enabled.now }
     requires lane { lane < 8 }
+    requires found { IsFound found (numbers_with lane 0 enabled.now) }
+    requires state { IsState chain.now state.old }
+    requires place { draws.old.place + 65 ≤ 2 ^ 62 }
+    ensures step { came result state.new draws.new.place
+        ≡ next_of chain.now (draw_at draws.old.seed draws.old.trace)
+        (record { state = state.old; position = draws.old.place }) }
+    ensures stayed { (result ≡ Ok Moved.Stayed) ↔ (choices_of chain.now state.old ≡ Ok []) }
+    ensures stays { OnErr result (state.new ≡ state.old) }
+    ensures keeps { IsState chain.now state.new }
+    ensures forward { draws.old.place ≤ draws.new.place }
+    ensures stream { draws.new ≡ record draws.old { place = draws.new.place } }
+    ensures room { IsRoom chain.now plan.now room.new }
+{
+    match sole_choice(chain, found) {
+        Some(command) => match take_sole(plan, chain, command, room, state, draws) {
+            Ok(()) => Ok(Moved::Taken),
+            Err(fault) => Err(fault),
+        },
+        None => move_by_bytes(plan, chain, enabled, lane, room, state, draws),
+    }
+}
+
+/// A move by what was found of the enabled commands and by the bits of a lane, which say which those are. After a fault
+/// the state and the draws are as they were.
+pub fn make_move(
+    plan: &Plan,
+    chain: &Chain,
+    found: Found,
+    enabled: &[u8],
+    lane: u32,
+    room: &mut Room,
+    state: &mut [i64],
+    draws: &mut Draws,
+) -> Result<Moved, TraceFault>
+    requires plan { IsPlan chain.now plan.now }
+    requires room { IsRoom chain.now plan.now room.old }
+    requires guards { AreGuards chain.now state.old lane enabled.now }
+    requires lane { lane < 8 }
+    requires found { IsFound found (numbers_with lane 0 enabled.now) }
     requires state { IsState chain.now state.old }
     requires place { draws.old.place + 65 ≤ 2 ^ 62 }
     ensures step { came result state.new draws.new.place
@@ -243,7 +347,7 @@ pub fn make_move(
     ensures room { IsRoom chain.now plan.now room.new }
 {
     let start = draws.place();
-    match try_move(plan, chain, enabled, lane, room, state, draws) {
+    match try_move(plan, chain, found, enabled, lane, room, state, draws) {
         Ok(moved) => Ok(moved),
         Err(fault) => {
             draws.back_to(start);

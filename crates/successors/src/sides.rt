@@ -155,6 +155,7 @@ pub fn write(copy: &mut [i64], variable: u32, value: i64)
 }
 
 /// Makes assignments in a copy of the old state.
+#[inline(always)]
 pub fn assign(sides: &[Side], state: &[i64], copy: &mut [i64]) -> Result<(), TraceFault>
     ensures { Writes result copy.new (assigned_sides state.now copy.old sides.now) }
 {

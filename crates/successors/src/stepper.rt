@@ -5,6 +5,7 @@ ghost use Rattle.trace_streams.specs.Draws.{draw_at};
 ghost use Rattle.chain_model.specs.States.{IsState};
 ghost use Rattle.chain_model.specs.Choices.{choices_of};
 
+use crate::found::Found;
 use crate::guards::fill;
 use crate::moving::{Moved, make_move};
 use crate::plan::{Plan, Room, plan_of, room_for};
@@ -54,18 +55,19 @@ impl Stepper {
         ensures stream { draws.new ≡ record draws.old { place = draws.new.place } }
         ensures stays { OnErr result ((state.new ≡ state.old) × (draws.new ≡ draws.old)) }
     {
-        match fill(
+        let found = match fill(
             &job.chain,
             self.plan.guards.as_slice(),
             state,
             &mut self.bytes,
         ) {
-            Ok(()) => {}
+            Ok(found) => found,
             Err(fault) => return Err(fault),
-        }
+        };
         make_move(
             &self.plan,
             &job.chain,
+            found,
             &self.bytes,
             0,
             &mut self.room,
@@ -124,6 +126,7 @@ impl Stepper {
         match make_move(
             &self.plan,
             &job.chain,
+            Found::Several,
             enabled,
             lane,
             &mut self.room,

@@ -43,6 +43,7 @@ fn branch_taken(
 }
 
 /// Writes the branches that commands take, in their order.
+#[inline(always)]
 pub fn write_branches(
     chain: &Chain,
     commands: &[Command],

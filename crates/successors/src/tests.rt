@@ -265,7 +265,7 @@ fn step_by_bits(
     let mut bytes = vec![in alloc; 0; job.chain.commands.len()]?;
     let mut state = initial(alloc, &job.chain)?;
     match fill(&job.chain, guards.as_slice(), &state, &mut bytes) {
-        Ok(()) => {}
+        Ok(_) => {}
         Err(_) => return Ok(None),
     }
     let mut stepper = Stepper::new(alloc, job)?;

@@ -1,18 +1,18 @@
 //! The branch that a command takes, by its weights.
 
-ghost use Rattle.std.specs.Prelude.{◌≡◌, ◌+◌, ◌<◌, ◌≤◌, ◌^◌, [], ◌∷◌, All, IfOk, MatchResult, OnOk, OnErr, Ok, Err, length, take};
+ghost use Rattle.std.specs.Prelude.{◌≡◌, ◌+◌, ◌<◌, ◌≤◌, ◌^◌, [], ◌∷◌, All, IfOk, IfSome, MatchResult, OnOk, OnErr, Ok, Err, length, take, unsigned_abs};
 ghost use Rattle.trace_streams.specs.Draws.{draw_at};
 ghost use Rattle.chain_model.specs.Step.{branch_of, command_draws, draws_for, first_above};
 ghost use Rattle.guard_code.specs.Tests.{IsSmall};
 ghost use Rattle.trace_meaning.specs.Weights.{IsWeight};
-ghost use Rattle.successors.specs.Weighing.{node_weight, node_weights, weighed_branch, HasWeights, IsWeighing};
+ghost use Rattle.successors.specs.Weighing.{node_weight, node_weights, weighed_branch, HasWeights, IsShare, IsWeighing};
 
 use chain_model::{Chain, TraceFault};
 use guard_code::{Node, weight_value};
 use smc_num::Frac;
 use sqlite_items::Items;
 use trace_meaning::{add_up, as_weight, denominator, drawn_branch};
-use trace_streams::Draws;
+use trace_streams::{Draws, pick};
 
 /// How the branch of a command is found.
 #[derive(Debug, Drop)]
@@ -81,6 +81,42 @@ fn write_weights(
     Ok(())
 }
 
+/// The denominator of a weight.
+#[inline(always)]
+fn den(weight: Frac) -> u64
+    ensures { result ≡ weight.den }
+{
+    weight.den() as u64
+}
+
+/// The numerator of a weight.
+#[inline(always)]
+fn part(weight: Frac) -> u64
+    ensures { result ≡ unsigned_abs weight.num }
+{
+    weight.num().unsigned_abs()
+}
+
+/// The numerator of the first of two weights that have one denominator and add up to 1, and the denominator.
+#[inline(always)]
+fn share_of(weights: &[Frac]) -> Option<(u64, u64)>
+    requires { All IsWeight weights.now }
+    ensures { IfSome result (λ share. IsShare weights.now share.0 share.1) }
+{
+    let [first, second] = weights else {
+        return None;
+    };
+    let whole = den(*first);
+    if den(*second) != whole || whole > 1 << 48 {
+        return None;
+    }
+    let share = part(*first);
+    if share > whole || part(*second) != whole - share {
+        return None;
+    }
+    Some((share, whole))
+}
+
 /// The branch that weights say.
 fn picked(command: u32, weights: &[Frac], draws: &mut Draws) -> Result<usize, TraceFault>
     requires weights { All IsWeight weights.now }
@@ -91,6 +127,9 @@ fn picked(command: u32, weights: &[Frac], draws: &mut Draws) -> Result<usize, Tr
         (draws.new ≡ record draws.old { place = draws.old.place + draws_for (length weights.now) }) }
     ensures stays { OnErr result (draws.new ≡ draws.old) }
 {
+    if let Some((share, whole)) = share_of(weights) {
+        return Ok(side_of_coin(pick(draws.next(), whole), share));
+    }
     let den = match denominator(weights) {
         Some(den) => den,
         None => return Err(TraceFault::Denominator { command }),

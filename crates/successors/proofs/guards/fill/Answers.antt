@@ -7,5 +7,8 @@ use Rattle.successors.proofs.guards.fill.Goals as goal
 pub returns : goal.returns
 returns c =
     let told = filled c.args.chain.now c.args.state.now c.args.guards.now c.write_guards.new.bytes c.write_guards.result c.requires.guards (small_state c.args.chain.now c.args.state.now c.requires.state)
-    (omega (arith, c.write_guards.auto.bytes, c.requires.long)) c.write_guards.ensures in
-    record { enabled = told.0; fault = told.1 }
+    (omega (arith, c.write_guards.auto.bytes, c.requires.long)) c.write_guards.ensures.enabled in
+    record { enabled = told.0; found = c.write_guards.ensures.found; fault = told.1 }
+
+pub write_guards-requires-clause-few : goal.write_guards-requires-clause-few
+write_guards-requires-clause-few c = omega (arith, c.requires.guards.long, c.args.chain.now.well_formed.few_commands)
