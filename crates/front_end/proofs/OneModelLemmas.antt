@@ -33,7 +33,7 @@ use Rattle.smc_report.specs.declared.reason.Reason.TheVariants as reason
 use Rattle.smc_report.specs.declared.reason.Subject.TheVariants as subject
 use Rattle.front_end.specs.declared.models.Model.{Model}
 use Rattle.front_end.specs.Stages.{CutTells, ParsesModel}
-use Rattle.front_end.specs.Models.{HasTree, HasFlat, RefusesFlat, ModelTells, has_no_values, has_no_type, is_not_cut, is_not_parsed, is_not_expanded, is_not_typed, is_model}
+use Rattle.front_end.specs.Models.{HasTree, HasFlat, RefusesFlat, FlatTells, ModelTells, has_no_values, has_no_type, is_not_cut, is_not_parsed, is_not_expanded, is_flat, has_no_flat, is_not_typed, is_model}
 use Rattle.front_end.proofs.StageOrderLemmas.{TellsOne, IsByStage, by_stage_one, Decides, decides_one}
 use Rattle.front_end.proofs.OneStageLemmas.{cut_one, IsParsed, parsed_one}
 
@@ -114,13 +114,13 @@ refused_flat given flat _ (has_no_type {consts = consts} {fault = fault} are ref
 
 -- what a text tells is told by its stages in order
 by_stages : (text : List ℕ) (given : List Given) (answer : Result Model Reason) → ModelTells text given answer → FromText text given answer
-by_stages text given _ (is_not_cut {why = why} cut) = record { first = Err why; told = cut; follows = refl }
-by_stages text given _ (is_not_parsed {tokens = tokens} {fault = fault} cut parsed) = record {
+by_stages text given _ (has_no_flat (is_not_cut {why = why} cut)) = record { first = Err why; told = cut; follows = refl }
+by_stages text given _ (has_no_flat (is_not_parsed {tokens = tokens} {fault = fault} cut parsed)) = record {
   first = Ok tokens;
   told = cut;
   follows = record { first = Err (reason.Parse subject.Model fault); told = record { parsed = Err fault; told = parsed; is = refl }; follows = refl };
 }
-by_stages text given _ (is_not_expanded {tree = tree} {fault = fault} read refused) =
+by_stages text given _ (has_no_flat (is_not_expanded {tree = tree} {fault = fault} read refused)) =
     after_tree text given tree (Err (reason.Expand subject.Model fault)) read
     (record { first = Err (reason.Expand subject.Model fault); told = (fault, refl, refused); follows = refl })
 by_stages text given _ (is_not_typed {flat = flat} {why = why} read refused) = after_flat text given flat (Err why) read (refused_flat given flat why refused)
@@ -137,3 +137,54 @@ by_stages text given _ (is_model {model = model} is) = after_flat text given is.
 -- so it is one thing at most
 pub one_model : (text : List ℕ) (given : List Given) (a b : Result Model Reason) → ModelTells text given a → ModelTells text given b → a ≡ b
 one_model text given a b x y = from_text text given a b (by_stages text given a x) (by_stages text given b y)
+
+-- ---- the flat text alone
+
+-- what is told of the flat text, of the tree on, of the tokens on, and of the text on
+abbrev FlatFromTree : ModelText → Result FlatText Reason → Type 0
+FlatFromTree tree =
+    IsByStage (Decides (IsFlat tree) (reason.Expand subject.Model) (expanding.IsRefused tree)) (λ (flat : FlatText) (answer : Result FlatText Reason). answer ≡ Ok flat)
+
+abbrev FlatFromTokens : List Token → Result FlatText Reason → Type 0
+FlatFromTokens tokens = IsByStage (IsParsed subject.Model (ParsesModel tokens)) FlatFromTree
+
+abbrev FlatFromText : List ℕ → Result FlatText Reason → Type 0
+FlatFromText text = IsByStage (CutTells subject.Model most_model_bytes text) FlatFromTokens
+
+flat_from_tree : (tree : ModelText) → TellsOne (FlatFromTree tree)
+flat_from_tree tree =
+    by_stage_one (decides_one (reason.Expand subject.Model) (λ accepted flat other. one_flat tree flat other) (one_expansion_refusal tree))
+    (λ flat a b x y. x ∙ sym y)
+
+flat_from_text : (text : List ℕ) → TellsOne (FlatFromText text)
+flat_from_text text = by_stage_one (cut_one subject.Model most_model_bytes text) (λ tokens. by_stage_one (parsed_one subject.Model (parses_one tokens)) flat_from_tree)
+
+flat_by_stages : (text : List ℕ) (answer : Result FlatText Reason) → FlatTells text answer → FlatFromText text answer
+flat_by_stages text _ (is_not_cut {why = why} cut) = record { first = Err why; told = cut; follows = refl }
+flat_by_stages text _ (is_not_parsed {tokens = tokens} {fault = fault} cut parsed) = record {
+  first = Ok tokens;
+  told = cut;
+  follows = record { first = Err (reason.Parse subject.Model fault); told = record { parsed = Err fault; told = parsed; is = refl }; follows = refl };
+}
+flat_by_stages text _ (is_not_expanded {tree = tree} {fault = fault} read refused) = record {
+  first = Ok read.tokens;
+  told = read.cut;
+  follows = record {
+    first = Ok tree;
+    told = record { parsed = Ok tree; told = read.parsed; is = refl };
+    follows = record { first = Err (reason.Expand subject.Model fault); told = (fault, refl, refused); follows = refl };
+  };
+}
+flat_by_stages text _ (is_flat {flat = flat} has) = record {
+  first = Ok has.read.tokens;
+  told = has.read.cut;
+  follows = record {
+    first = Ok has.tree;
+    told = record { parsed = Ok has.tree; told = has.read.parsed; is = refl };
+    follows = record { first = Ok flat; told = (has.written_out, has.accepted); follows = refl };
+  };
+}
+
+-- so it is one thing at most
+pub one_flat_told : (text : List ℕ) (a b : Result FlatText Reason) → FlatTells text a → FlatTells text b → a ≡ b
+one_flat_told text a b x y = flat_from_text text a b (flat_by_stages text a x) (flat_by_stages text b y)

@@ -62,13 +62,18 @@ pub record IsModelOf (text : List ℕ) (given : List Given) (model : Model) : Ty
   pub read : HasFlat text flat
   pub model_of : IsModelOfFlat flat given model
 
+-- what a model's text tells by itself: a flat text, or the reason to refuse it, which is that of the first stage that refuses
+pub data FlatTells (text : List ℕ) : Result FlatText Reason → Type 0 where
+  is_not_cut : {why : Reason} → CutTells subject.Model most_model_bytes text (Err why) → FlatTells text (Err why)
+  is_not_parsed : {tokens : List Token} {fault : ParseFault} → CutTells subject.Model most_model_bytes text (Ok tokens) → ParsesModel tokens (Err fault)
+      → FlatTells text (Err (reason.Parse subject.Model fault))
+  is_not_expanded : {tree : ModelText} {fault : ExpandFault} → HasTree text tree → expanding.IsRefused tree fault
+      → FlatTells text (Err (reason.Expand subject.Model fault))
+  is_flat : {flat : FlatText} → HasFlat text flat → FlatTells text (Ok flat)
+
 -- what a model's text tells with these given constants: a model, or the reason to refuse it, which is that of the first stage
 -- that refuses
 pub data ModelTells (text : List ℕ) (given : List Given) : Result Model Reason → Type 0 where
-  is_not_cut : {why : Reason} → CutTells subject.Model most_model_bytes text (Err why) → ModelTells text given (Err why)
-  is_not_parsed : {tokens : List Token} {fault : ParseFault} → CutTells subject.Model most_model_bytes text (Ok tokens) → ParsesModel tokens (Err fault)
-      → ModelTells text given (Err (reason.Parse subject.Model fault))
-  is_not_expanded : {tree : ModelText} {fault : ExpandFault} → HasTree text tree → expanding.IsRefused tree fault
-      → ModelTells text given (Err (reason.Expand subject.Model fault))
+  has_no_flat : {why : Reason} → FlatTells text (Err why) → ModelTells text given (Err why)
   is_not_typed : {flat : FlatText} {why : Reason} → HasFlat text flat → RefusesFlat flat given why → ModelTells text given (Err why)
   is_model : {model : Model} → IsModelOf text given model → ModelTells text given (Ok model)

@@ -8,8 +8,8 @@ mod properties;
 mod stages;
 mod stop;
 
-pub use laws::{one_model_law, one_property_law};
-pub use models::{Model, read_model};
+pub use laws::{one_flat_law, one_model_law, one_property_law};
+pub use models::{Model, read_flat, read_model};
 pub use properties::read_property;
 pub use stop::Stop;
 

@@ -1,7 +1,6 @@
 //! From a model's text to its chain.
 
-ghost use Rattle.std.specs.Prelude.{Ok, Err, List, IfOk, IfErr, OnOk};
-ghost use Rattle.chain_model.specs.declared.constants.Given.{Given};
+ghost use Rattle.std.specs.Prelude.{Ok, Err, IfOk, IfErr, OnOk};
 ghost use Rattle.module_expand.specs.Duplicates.{AreNamedApart};
 ghost use Rattle.module_expand.specs.Flat.{IsFlat};
 ghost use Rattle.module_expand.specs.Refusals as expanding;
@@ -12,7 +11,7 @@ ghost use Rattle.typecheck.specs.ModelRefusals as typing;
 ghost use Rattle.smc_report.specs.declared.reason.Reason.TheVariants as reason;
 ghost use Rattle.front_end.specs.Stops.{StopTells, IsReasonOf, IsAccepted};
 ghost use Rattle.front_end.specs.Stages.{ParsesModel};
-ghost use Rattle.front_end.specs.Models.{HasFlat, HasTree, IsModelOf, IsModelOfFlat, ModelTells, RefusesFlat};
+ghost use Rattle.front_end.specs.Models.{HasFlat, HasTree, FlatTells, IsModelOf, IsModelOfFlat, ModelTells, RefusesFlat};
 
 use crate::stages::cut;
 use crate::stop::Stop;
@@ -67,11 +66,12 @@ fn model_of(alloc: Global, flat: FlatText, given: &[Given]) -> Result<Model, Sto
     })
 }
 
-/// The flat text of a model's text.
-fn read_flat(alloc: Global, text: &[u8]) -> Result<FlatText, Stop>
+/// The flat text of a model's text, in which its formulas and renamed modules are written out, or the reason to refuse the
+/// text.
+pub fn read_flat(alloc: Global, text: &[u8]) -> Result<FlatText, Stop>
     ensures flat { IfOk result (HasFlat text.now) }
     ensures distinct { IfOk result AreNamedApart }
-    ensures refused { (given : List Given) → IfErr result (StopTells (λ reason. ModelTells text.now given (Err reason))) }
+    ensures refused { IfErr result (StopTells (λ reason. FlatTells text.now (Err reason))) }
 {
     let tree = match read_tree(alloc, text) {
         Ok(tree) => tree,
@@ -83,7 +83,7 @@ fn read_flat(alloc: Global, text: &[u8]) -> Result<FlatText, Stop>
 /// The tree of a model's text.
 fn read_tree(alloc: Global, text: &[u8]) -> Result<ModelText, Stop>
     ensures tree { IfOk result (HasTree text.now) }
-    ensures refused { (given : List Given) → IfErr result (StopTells (λ reason. ModelTells text.now given (Err reason))) }
+    ensures refused { IfErr result (StopTells (λ reason. FlatTells text.now (Err reason))) }
 {
     let tokens = match cut(alloc, Subject::Model, MOST_MODEL_BYTES, text) {
         Ok(tokens) => tokens,

@@ -11,7 +11,7 @@ use std::{env, io};
 use stop_rules::{Batches, LongestRun, Observer};
 
 /// How many bytes the thread's stack has. The trees of the deepest texts within the limits need a good part of it.
-const STACK: usize = 64 << 20;
+const STACK: usize = 256 << 20;
 
 /// How many traces a batch has of which the report tells.
 const BATCH: u64 = 1000;

@@ -4,7 +4,7 @@ use Rattle.std.specs.List.{flat_map}
 
 -- the commands that are known, in the order in which they are listed
 abbrev pub known_commands : List (List ℕ)
-known_commands = codes "check" ∷ codes "trace" ∷ codes "help" ∷ []
+known_commands = codes "check" ∷ codes "trace" ∷ codes "expand" ∷ codes "make" ∷ codes "help" ∷ []
 
 -- the line that lists the commands, each after a blank
 abbrev pub commands_line : List ℕ

@@ -85,10 +85,14 @@ check_report (command.Check model property given seed words limit workers) claim
     concat (result_line end.cause ∷ cause_lines end.cause end step cause ∷ count_lines end
     ∷ asked_lines claim words limit seed ∷ observer_lines lines ∷ [])
 check_report (command.Trace model given seed index steps) claim end step cause lines = []
+check_report (command.Expand model) claim end step cause lines = []
+check_report (command.Make stations seed workers) claim end step cause lines = []
 check_report command.Help claim end step cause lines = []
 
 -- a goal is made from settings of `check` and a claim
 abbrev pub IsGoalOf : Settings → Claim → Goal → Type 0
 IsGoalOf (command.Check model property given seed words limit workers) claim goal = IsGoal claim words limit goal
 IsGoalOf (command.Trace model given seed index steps) claim goal = ⊥
+IsGoalOf (command.Expand model) claim goal = ⊥
+IsGoalOf (command.Make stations seed workers) claim goal = ⊥
 IsGoalOf command.Help claim goal = ⊥

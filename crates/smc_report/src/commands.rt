@@ -5,7 +5,7 @@ ghost use Rattle.smc_report.specs.Help.{commands_line};
 use std::alloc::{AllocError, Global};
 
 /// The commands that are known.
-const COMMANDS: [&str; 3] = ["check", "trace", "help"];
+const COMMANDS: [&str; 5] = ["check", "trace", "expand", "make", "help"];
 
 /// The answer to `help`: the line that lists the commands.
 pub fn help_line(alloc: Global) -> Result<Vec<u8>, AllocError>

@@ -8,7 +8,7 @@ use Rattle.smc_settings.specs.declared.commands.TestWords.{TestWords}
 use Rattle.smc_settings.specs.declared.commands.TestWords.TheVariants as test
 use Rattle.smc_settings.specs.Options.{Text}
 use Rattle.smc_settings.specs.Values.{is_whole, whole_within, whole_or, plan_from}
-use Rattle.smc_settings.specs.Settings.{IsTest, plan, wald, IsCheck, check_settings, IsTrace, trace_settings, IsSettings, check, trace, help, IsPlanWithin, AreWithin}
+use Rattle.smc_settings.specs.Settings.{IsTest, plan, wald, IsCheck, check_settings, IsTrace, trace_settings, IsExpand, expand_settings, IsMake, make_settings, IsSettings, check, trace, expand, make, help, IsPlanWithin, AreWithin}
 
 -- a whole number that is found is within its range
 pub found_within : (least most n : ℕ) (text : Text) → whole_within least most text ≡ Some n → (least ≤ n) × (n ≤ most)
@@ -48,7 +48,18 @@ check_within v _ (check_settings model property given seed words limit workers a
 trace_within : (v : Text → Option Text) (s : Settings) → IsTrace v s → AreWithin s
 trace_within v _ (trace_settings model given seed index steps a c d f g) = (or_within 10 0 10000 steps (v (codes "steps")) (omega arith) (omega arith) g).1
 
+make_within : (v : Text → Option Text) (s : Settings) → IsMake v s → AreWithin s
+make_within v _ (make_settings stations seed workers a odd b c) =
+    let size = or_within 9 3 63 stations (v (codes "stations")) (omega arith) (omega arith) a in
+    let threads = or_within 1 1 64 workers (v (codes "workers")) (omega arith) (omega arith) c in
+    (size.0, size.1, odd, threads.0, threads.1)
+
+expand_within : (v : Text → Option Text) (s : Settings) → IsExpand v s → AreWithin s
+expand_within v _ (expand_settings model a) = tt
+
 pub are_within : (words : List Text) (s : Settings) → IsSettings words s → AreWithin s
 are_within _ s (check _ _ _ _ is) = check_within _ s is.has_settings
 are_within _ s (trace _ _ _ _ is) = trace_within _ s is.has_settings
+are_within _ s (expand _ _ _ _ is) = expand_within _ s is.has_settings
+are_within _ s (make _ _ _ _ is) = make_within _ s is.has_settings
 are_within _ _ (help _ _) = tt

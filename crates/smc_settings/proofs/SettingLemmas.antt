@@ -5,7 +5,7 @@ use Rattle.smc_settings.specs.declared.commands.TestWords.{TestWords}
 use Rattle.smc_settings.specs.Options.{Text, AreOptions, value_in}
 use Rattle.smc_settings.specs.Values.{whole_or}
 use Rattle.smc_settings.specs.Constants.{ArePairsOr}
-use Rattle.smc_settings.specs.Settings.{IsTest, IsCheck, check_settings, IsTrace, trace_settings, AreCheckWords, AreTraceWords, check_table, trace_table, IsSettings, check, trace, help}
+use Rattle.smc_settings.specs.Settings.{IsTest, IsCheck, check_settings, IsTrace, trace_settings, IsExpand, expand_settings, IsMake, make_settings, AreCheckWords, AreTraceWords, AreExpandWords, AreMakeWords, check_table, trace_table, expand_table, make_table, IsSettings, check, trace, expand, make, help}
 use Rattle.smc_settings.specs.Parse.{HasValues, is_name}
 use Rattle.std.specs.List.{list_all}
 use Rattle.std.proofs.Common.{true}
@@ -29,6 +29,14 @@ same_trace v w _ same (trace_settings model given seed index steps a c d e f) =
     (ap (whole_or 1 0 (2 ^ 64 - 1)) (sym (same (codes "seed"))) ∙ d) (ap (whole_or 0 0 (2 ^ 64 - 1)) (sym (same (codes "index"))) ∙ e)
     (ap (whole_or 10 0 10000) (sym (same (codes "steps"))) ∙ f)
 
+pub same_expand : (v w : Text → Option Text) (s : Settings) → ((name : Text) → v name ≡ w name) → IsExpand v s → IsExpand w s
+same_expand v w _ same (expand_settings model a) = expand_settings model (sym (same (codes "model")) ∙ a)
+
+pub same_make : (v w : Text → Option Text) (s : Settings) → ((name : Text) → v name ≡ w name) → IsMake v s → IsMake w s
+same_make v w _ same (make_settings stations seed workers a odd b c) =
+    make_settings stations seed workers (ap (whole_or 9 3 63) (sym (same (codes "stations"))) ∙ a) odd
+    (ap (whole_or 1 0 (2 ^ 64 - 1)) (sym (same (codes "seed"))) ∙ b) (ap (whole_or 1 1 64) (sym (same (codes "workers"))) ∙ c)
+
 -- ---- words of a command
 
 check_names : list_all is_name check_table ≡ true
@@ -36,6 +44,12 @@ check_names = refl
 
 trace_names : list_all is_name trace_table ≡ true
 trace_names = refl
+
+expand_names : list_all is_name expand_table ≡ true
+expand_names = refl
+
+make_names : list_all is_name make_table ≡ true
+make_names = refl
 
 -- settings of the values are settings of the words
 pub check_words : (table words : List Text) (v : Text → Option Text) (s : Settings) → table ≡ check_table → HasValues table words v → IsCheck v s → AreCheckWords words s
@@ -52,6 +66,20 @@ trace_words table words v s same has is = record {
   has_settings = same_trace v (value_in has.options) s has.values is;
 }
 
+pub expand_words : (table words : List Text) (v : Text → Option Text) (s : Settings) → table ≡ expand_table → HasValues table words v → IsExpand v s → AreExpandWords words s
+expand_words table words v s same has is = record {
+  options = has.options;
+  are_options = subst (λ t. AreOptions t words has.options) same has.are_options;
+  has_settings = same_expand v (value_in has.options) s has.values is;
+}
+
+pub make_words : (table words : List Text) (v : Text → Option Text) (s : Settings) → table ≡ make_table → HasValues table words v → IsMake v s → AreMakeWords words s
+make_words table words v s same has is = record {
+  options = has.options;
+  are_options = subst (λ t. AreOptions t words has.options) same has.are_options;
+  has_settings = same_make v (value_in has.options) s has.values is;
+}
+
 -- and settings of the words are settings of the values
 pub check_values : (table words : List Text) (v : Text → Option Text) (s : Settings) → table ≡ check_table → HasValues table words v → AreCheckWords words s → IsCheck v s
 check_values table words v s same has is =
@@ -65,19 +93,51 @@ trace_values table words v s same has is =
     let one = one_options trace_table words has.options is.options trace_names gives.gives is.are_options.gives in
     same_trace (value_in is.options) v s (λ name. sym (has.values name ∙ ap (λ o. value_in o name) one)) is.has_settings
 
+pub expand_values : (table words : List Text) (v : Text → Option Text) (s : Settings) → table ≡ expand_table → HasValues table words v → AreExpandWords words s → IsExpand v s
+expand_values table words v s same has is =
+    let gives = subst (λ t. AreOptions t words has.options) same has.are_options in
+    let one = one_options expand_table words has.options is.options expand_names gives.gives is.are_options.gives in
+    same_expand (value_in is.options) v s (λ name. sym (has.values name ∙ ap (λ o. value_in o name) one)) is.has_settings
+
+pub make_values : (table words : List Text) (v : Text → Option Text) (s : Settings) → table ≡ make_table → HasValues table words v → AreMakeWords words s → IsMake v s
+make_values table words v s same has is =
+    let gives = subst (λ t. AreOptions t words has.options) same has.are_options in
+    let one = one_options make_table words has.options is.options make_names gives.gives is.are_options.gives in
+    same_make (value_in is.options) v s (λ name. sym (has.values name ∙ ap (λ o. value_in o name) one)) is.has_settings
+
 -- ---- words by their command
 
 pub check_only : (name : Text) (words : List Text) (s : Settings) → name ≡ codes "check" → IsSettings (name ∷ words) s → AreCheckWords words s
 check_only name words s e (check _ _ _ _ is) = is
 check_only name words s e (trace _ _ _ f _) = absurd (different (codes "check") (codes "trace") refl (sym e ∙ f))
+check_only name words s e (expand _ _ _ f _) = absurd (different (codes "check") (codes "expand") refl (sym e ∙ f))
+check_only name words s e (make _ _ _ f _) = absurd (different (codes "check") (codes "make") refl (sym e ∙ f))
 check_only name _ _ e (help _ f) = absurd (different (codes "check") (codes "help") refl (sym e ∙ f))
 
 pub trace_only : (name : Text) (words : List Text) (s : Settings) → name ≡ codes "trace" → IsSettings (name ∷ words) s → AreTraceWords words s
 trace_only name words s e (trace _ _ _ _ is) = is
 trace_only name words s e (check _ _ _ f _) = absurd (different (codes "trace") (codes "check") refl (sym e ∙ f))
+trace_only name words s e (expand _ _ _ f _) = absurd (different (codes "trace") (codes "expand") refl (sym e ∙ f))
+trace_only name words s e (make _ _ _ f _) = absurd (different (codes "trace") (codes "make") refl (sym e ∙ f))
 trace_only name _ _ e (help _ f) = absurd (different (codes "trace") (codes "help") refl (sym e ∙ f))
+
+pub expand_only : (name : Text) (words : List Text) (s : Settings) → name ≡ codes "expand" → IsSettings (name ∷ words) s → AreExpandWords words s
+expand_only name words s e (expand _ _ _ _ is) = is
+expand_only name words s e (check _ _ _ f _) = absurd (different (codes "expand") (codes "check") refl (sym e ∙ f))
+expand_only name words s e (trace _ _ _ f _) = absurd (different (codes "expand") (codes "trace") refl (sym e ∙ f))
+expand_only name words s e (make _ _ _ f _) = absurd (different (codes "expand") (codes "make") refl (sym e ∙ f))
+expand_only name _ _ e (help _ f) = absurd (different (codes "expand") (codes "help") refl (sym e ∙ f))
+
+pub make_only : (name : Text) (words : List Text) (s : Settings) → name ≡ codes "make" → IsSettings (name ∷ words) s → AreMakeWords words s
+make_only name words s e (make _ _ _ _ is) = is
+make_only name words s e (check _ _ _ f _) = absurd (different (codes "make") (codes "check") refl (sym e ∙ f))
+make_only name words s e (trace _ _ _ f _) = absurd (different (codes "make") (codes "trace") refl (sym e ∙ f))
+make_only name words s e (expand _ _ _ f _) = absurd (different (codes "make") (codes "expand") refl (sym e ∙ f))
+make_only name _ _ e (help _ f) = absurd (different (codes "make") (codes "help") refl (sym e ∙ f))
 
 pub help_only : (name : Text) (words : List Text) (s : Settings) → name ≡ codes "help" → IsSettings (name ∷ words) s → words ≡ []
 help_only name words s e (check _ _ _ f _) = absurd (different (codes "help") (codes "check") refl (sym e ∙ f))
 help_only name words s e (trace _ _ _ f _) = absurd (different (codes "help") (codes "trace") refl (sym e ∙ f))
+help_only name words s e (expand _ _ _ f _) = absurd (different (codes "help") (codes "expand") refl (sym e ∙ f))
+help_only name words s e (make _ _ _ f _) = absurd (different (codes "help") (codes "make") refl (sym e ∙ f))
 help_only name _ _ e (help _ f) = refl

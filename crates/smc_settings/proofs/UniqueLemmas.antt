@@ -18,7 +18,7 @@ use Rattle.smc_settings.specs.Options.{Text, Gives, nothing, one_word, two_words
 use Rattle.smc_settings.specs.Values.{IsNumberOr, plan_of}
 use Rattle.smc_settings.specs.Constants.{IsPair, ArePairs, ArePairsOr, last, more, IsValueOf}
 use Rattle.smc_settings.specs.Constants as spelled
-use Rattle.smc_settings.specs.Settings.{IsTest, plan, wald, IsCheck, check_settings, IsTrace, trace_settings, check_table, trace_table, IsSettings, check, trace, help}
+use Rattle.smc_settings.specs.Settings.{IsTest, plan, wald, IsCheck, check_settings, IsTrace, trace_settings, IsExpand, expand_settings, IsMake, make_settings, check_table, trace_table, expand_table, make_table, IsSettings, check, trace, expand, make, help}
 use Rattle.smc_settings.specs.Parse.{is_name, IsOptionWord, IsNameWord}
 use Rattle.smc_settings.proofs.CutLemmas.{cut_once, different}
 use Rattle.smc_settings.proofs.FormLemmas.{known_plain, not_both}
@@ -191,11 +191,29 @@ one_trace v _ _ (trace_settings model given seed index steps a c d e f) (trace_s
     let p5 = some_one _ steps steps' f f' in
     cc
 
+one_expand : (v : Text → Option Text) (one two : Settings) → IsExpand v one → IsExpand v two → one ≡ two
+one_expand v _ _ (expand_settings model a) (expand_settings model' a') =
+    let p1 = some_one _ model model' a a' in
+    cc
+
+one_make : (v : Text → Option Text) (one two : Settings) → IsMake v one → IsMake v two → one ≡ two
+one_make v _ _ (make_settings stations seed workers a odd b c) (make_settings stations' seed' workers' a' odd' b' c') =
+    let p1 = some_one _ stations stations' a a' in
+    let p2 = some_one _ seed seed' b b' in
+    let p3 = some_one _ workers workers' c c' in
+    cc
+
 check_names : list_all is_name check_table ≡ true
 check_names = refl
 
 trace_names : list_all is_name trace_table ≡ true
 trace_names = refl
+
+expand_names : list_all is_name expand_table ≡ true
+expand_names = refl
+
+make_names : list_all is_name make_table ≡ true
+make_names = refl
 
 -- words have at most one settings
 pub one_settings : (words : List Text) (one two : Settings) → IsSettings words one → IsSettings words two → one ≡ two
@@ -203,12 +221,32 @@ one_settings _ _ _ (check name' words one e is) (check _ _ two f also) =
     let same = one_options check_table words is.options also.options check_names is.are_options.gives also.are_options.gives in
     one_check (value_in is.options) one two is.has_settings (subst (λ o. IsCheck (value_in o) two) (sym same) also.has_settings)
 one_settings _ _ _ (check name' words one e is) (trace _ _ two f also) = absurd (different (codes "check") (codes "trace") refl (sym e ∙ f))
+one_settings _ _ _ (check name' words one e is) (expand _ _ two f also) = absurd (different (codes "check") (codes "expand") refl (sym e ∙ f))
+one_settings _ _ _ (check name' words one e is) (make _ _ two f also) = absurd (different (codes "check") (codes "make") refl (sym e ∙ f))
 one_settings _ _ _ (check name' words one e is) (help _ f) = absurd (different (codes "check") (codes "help") refl (sym e ∙ f))
 one_settings _ _ _ (trace name' words one e is) (check _ _ two f also) = absurd (different (codes "trace") (codes "check") refl (sym e ∙ f))
 one_settings _ _ _ (trace name' words one e is) (trace _ _ two f also) =
     let same = one_options trace_table words is.options also.options trace_names is.are_options.gives also.are_options.gives in
     one_trace (value_in is.options) one two is.has_settings (subst (λ o. IsTrace (value_in o) two) (sym same) also.has_settings)
+one_settings _ _ _ (trace name' words one e is) (expand _ _ two f also) = absurd (different (codes "trace") (codes "expand") refl (sym e ∙ f))
+one_settings _ _ _ (trace name' words one e is) (make _ _ two f also) = absurd (different (codes "trace") (codes "make") refl (sym e ∙ f))
 one_settings _ _ _ (trace name' words one e is) (help _ f) = absurd (different (codes "trace") (codes "help") refl (sym e ∙ f))
+one_settings _ _ _ (expand name' words one e is) (check _ _ two f also) = absurd (different (codes "expand") (codes "check") refl (sym e ∙ f))
+one_settings _ _ _ (expand name' words one e is) (trace _ _ two f also) = absurd (different (codes "expand") (codes "trace") refl (sym e ∙ f))
+one_settings _ _ _ (expand name' words one e is) (expand _ _ two f also) =
+    let same = one_options expand_table words is.options also.options expand_names is.are_options.gives also.are_options.gives in
+    one_expand (value_in is.options) one two is.has_settings (subst (λ o. IsExpand (value_in o) two) (sym same) also.has_settings)
+one_settings _ _ _ (expand name' words one e is) (make _ _ two f also) = absurd (different (codes "expand") (codes "make") refl (sym e ∙ f))
+one_settings _ _ _ (expand name' words one e is) (help _ f) = absurd (different (codes "expand") (codes "help") refl (sym e ∙ f))
+one_settings _ _ _ (make name' words one e is) (check _ _ two f also) = absurd (different (codes "make") (codes "check") refl (sym e ∙ f))
+one_settings _ _ _ (make name' words one e is) (trace _ _ two f also) = absurd (different (codes "make") (codes "trace") refl (sym e ∙ f))
+one_settings _ _ _ (make name' words one e is) (expand _ _ two f also) = absurd (different (codes "make") (codes "expand") refl (sym e ∙ f))
+one_settings _ _ _ (make name' words one e is) (make _ _ two f also) =
+    let same = one_options make_table words is.options also.options make_names is.are_options.gives also.are_options.gives in
+    one_make (value_in is.options) one two is.has_settings (subst (λ o. IsMake (value_in o) two) (sym same) also.has_settings)
+one_settings _ _ _ (make name' words one e is) (help _ f) = absurd (different (codes "make") (codes "help") refl (sym e ∙ f))
 one_settings _ _ _ (help name' e) (check _ _ two f also) = absurd (different (codes "help") (codes "check") refl (sym e ∙ f))
 one_settings _ _ _ (help name' e) (trace _ _ two f also) = absurd (different (codes "help") (codes "trace") refl (sym e ∙ f))
+one_settings _ _ _ (help name' e) (expand _ _ two f also) = absurd (different (codes "help") (codes "expand") refl (sym e ∙ f))
+one_settings _ _ _ (help name' e) (make _ _ two f also) = absurd (different (codes "help") (codes "make") refl (sym e ∙ f))
 one_settings _ _ _ (help name' e) (help _ f) = refl

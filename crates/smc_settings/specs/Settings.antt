@@ -1,5 +1,5 @@
 -- What the words of the command line say: a command and its options.
-use Rattle.std.specs.Prelude.{◌≡◌, ◌≤◌, ⊤, ℕ, ◌-◌, ◌^◌, List, [], ◌∷◌, Option, Some, None, codes}
+use Rattle.std.specs.Prelude.{◌≡◌, ◌≤◌, ⊤, ℕ, ◌-◌, ◌%◌, ◌^◌, List, [], ◌∷◌, Option, Some, None, codes}
 use Rattle.smc_num.specs.Fraction.{Fraction}
 use Rattle.chain_model.specs.declared.constants.Given.{Given}
 use Rattle.smc_settings.specs.declared.commands.Settings.{Settings}
@@ -19,6 +19,14 @@ check_table =
 -- the options of `trace`
 abbrev pub trace_table : List Text
 trace_table = codes "model" ∷ codes "const" ∷ codes "seed" ∷ codes "index" ∷ codes "steps" ∷ []
+
+-- the options of `expand`
+abbrev pub expand_table : List Text
+expand_table = codes "model" ∷ []
+
+-- the options of `make`
+abbrev pub make_table : List Text
+make_table = codes "stations" ∷ codes "seed" ∷ codes "workers" ∷ []
 
 -- the test of a run: a plan, with no number of Wald's test beside it, or Wald's test with its three numbers
 pub data IsTest : Option Text → Option Text → Option Text → Option Text → TestWords → Type 0 where
@@ -48,6 +56,19 @@ pub data IsTrace (value : Text → Option Text) : Settings → Type 0 where
       → whole_or 10 0 10000 (value (codes "steps")) ≡ Some steps
       → IsTrace value (command.Trace model given seed index steps)
 
+-- the settings of `expand`
+pub data IsExpand (value : Text → Option Text) : Settings → Type 0 where
+  expand_settings : (model : Text) → value (codes "model") ≡ Some model → IsExpand value (command.Expand model)
+
+-- the settings of `make`, a premise for each option; the number of stations is odd
+pub data IsMake (value : Text → Option Text) : Settings → Type 0 where
+  make_settings : (stations seed workers : ℕ)
+      → whole_or 9 3 63 (value (codes "stations")) ≡ Some stations
+      → stations % 2 ≡ 1
+      → whole_or 1 0 (2 ^ 64 - 1) (value (codes "seed")) ≡ Some seed
+      → whole_or 1 1 64 (value (codes "workers")) ≡ Some workers
+      → IsMake value (command.Make stations seed workers)
+
 -- the words give options of `check`, with these settings
 pub record AreCheckWords (words : List Text) (settings : Settings) : Type 0 where
   pub options : List (Text × Text)
@@ -60,11 +81,27 @@ pub record AreTraceWords (words : List Text) (settings : Settings) : Type 0 wher
   pub are_options : AreOptions trace_table words options
   pub has_settings : IsTrace (value_in options) settings
 
+-- the words give options of `expand`, with these settings
+pub record AreExpandWords (words : List Text) (settings : Settings) : Type 0 where
+  pub options : List (Text × Text)
+  pub are_options : AreOptions expand_table words options
+  pub has_settings : IsExpand (value_in options) settings
+
+-- the words give options of `make`, with these settings
+pub record AreMakeWords (words : List Text) (settings : Settings) : Type 0 where
+  pub options : List (Text × Text)
+  pub are_options : AreOptions make_table words options
+  pub has_settings : IsMake (value_in options) settings
+
 -- the settings that the words give: the first is the command, the others are its options; `help` has none
 pub data IsSettings : List Text → Settings → Type 0 where
   check : (name : Text) (words : List Text) (settings : Settings) → name ≡ codes "check" → AreCheckWords words settings
       → IsSettings (name ∷ words) settings
   trace : (name : Text) (words : List Text) (settings : Settings) → name ≡ codes "trace" → AreTraceWords words settings
+      → IsSettings (name ∷ words) settings
+  expand : (name : Text) (words : List Text) (settings : Settings) → name ≡ codes "expand" → AreExpandWords words settings
+      → IsSettings (name ∷ words) settings
+  make : (name : Text) (words : List Text) (settings : Settings) → name ≡ codes "make" → AreMakeWords words settings
       → IsSettings (name ∷ words) settings
   help : (name : Text) → name ≡ codes "help" → IsSettings (name ∷ []) command.Help
 
@@ -78,4 +115,7 @@ abbrev pub AreWithin : Settings → Type 0
 AreWithin (command.Check model property given seed test limit workers) =
     IsPlanWithin test × (1 ≤ limit) × (limit ≤ 2 ^ 28) × (1 ≤ workers) × (workers ≤ 64)
 AreWithin (command.Trace model given seed index steps) = steps ≤ 10000
+AreWithin (command.Expand model) = ⊤
+AreWithin (command.Make stations seed workers) =
+    (3 ≤ stations) × (stations ≤ 63) × (stations % 2 ≡ 1) × (1 ≤ workers) × (workers ≤ 64)
 AreWithin command.Help = ⊤

@@ -51,6 +51,20 @@ pub enum Settings {
         /// How many steps it has at most.
         steps: u32,
     },
+    /// Print a model with its formulas and renamed modules written out.
+    Expand {
+        /// The name of the model's file.
+        model: Argument,
+    },
+    /// Make a ring of stations, and check that it comes to rest in time.
+    Make {
+        /// How many stations it has: an odd number.
+        stations: u32,
+        /// The seed of all draws.
+        seed: u64,
+        /// How many threads draw the traces.
+        workers: u64,
+    },
     /// List the commands.
     Help,
 }

@@ -6,6 +6,8 @@ ghost use Rattle.smc_settings.specs.Settings.{IsSettings, AreWithin};
 
 use crate::check::check;
 use crate::commands::Settings;
+use crate::expand::expand;
+use crate::make::make;
 use crate::options::are_options;
 use crate::parsing::parse;
 use crate::trace::trace;
@@ -36,6 +38,8 @@ fn command(alloc: Global, name: &str, words: &[String]) -> Result<Settings, Usag
     match name {
         "check" => check(alloc, words),
         "trace" => trace(alloc, words),
+        "expand" => expand(alloc, words),
+        "make" => make(alloc, words),
         "help" if words.is_empty() => Ok(Settings::Help),
         _ => Err(Usage::Words),
     }

@@ -76,6 +76,15 @@ fn line(alloc: Global, settings: &Settings) -> Result<String, AllocError> {
             let model = model.as_str();
             format!(in alloc; "trace {model}{given} {seed} {index} {steps}")
         }
+        Settings::Expand { model } => {
+            let model = model.as_str();
+            format!(in alloc; "expand {model}")
+        }
+        Settings::Make {
+            stations,
+            seed,
+            workers,
+        } => format!(in alloc; "make {stations} {seed} {workers}"),
         Settings::Help => String::from_str(alloc, "help"),
     }
 }
@@ -101,7 +110,7 @@ fn refuses_options(alloc: Global, options: &str) -> Result<bool, AllocError> {
 }
 
 /// Words, and their settings in a line.
-static SETTINGS: [(&str, &str); 29] = [
+static SETTINGS: [(&str, &str); 35] = [
     (
         "check|--model=m|--property=p",
         "check m p 1 wald 1/100 1/100 1/100 1000000 1",
@@ -206,6 +215,15 @@ static SETTINGS: [(&str, &str); 29] = [
     ),
     ("trace|--model=m|--index=0", "trace m 1 0 10"),
     ("help", "help"),
+    ("expand|--model=m", "expand m"),
+    ("expand|--model|a b", "expand a b"),
+    ("make", "make 9 1 1"),
+    ("make|--stations=3", "make 3 1 1"),
+    (
+        "make|--workers=64|--stations|63|--seed=18446744073709551615",
+        "make 63 18446744073709551615 64",
+    ),
+    ("make|--stations=05", "make 5 1 1"),
 ];
 
 #[test]
@@ -217,7 +235,7 @@ fn words_of_the_form_give_their_settings(rt: HostRuntime) -> Result<(), Fail> {
 }
 
 /// Words that are no command with its options.
-static COMMANDS: [&str; 18] = [
+static COMMANDS: [&str; 34] = [
     "",
     "Check|--model=m|--property=p",
     "--model=m|--property=p",
@@ -236,6 +254,22 @@ static COMMANDS: [&str; 18] = [
     "trace|--model=m|--steps=-1",
     "trace|--model=m|--index=18446744073709551616",
     "trace|--model=m|m",
+    "expand",
+    "expand|--model=m|--const=K=1",
+    "expand|--model=m|--property=p",
+    "expand|--model=m|--seed=1",
+    "expand|--model=m|--model=m",
+    "make|3",
+    "make|--stations=4",
+    "make|--stations=1",
+    "make|--stations=2",
+    "make|--stations=64",
+    "make|--stations=65",
+    "make|--stations=three",
+    "make|--workers=65",
+    "make|--model=m",
+    "make|--limit=1",
+    "make|--const=K=1",
 ];
 
 #[test]

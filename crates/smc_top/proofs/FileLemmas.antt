@@ -55,6 +55,8 @@ taken_of (Some files) bytes name same most before after Fault (inr fault) = inl 
 pub no_file : (words : List (List ℕ)) (settings : Settings) → IsSettings words settings → NamesNoFile words → file_named settings ≡ None
 no_file words (command.Check model property given seed test limit workers) read none = absurd (none model (command.Check model property given seed test limit workers, read, refl))
 no_file words (command.Trace model given seed index steps) read none = absurd (none model (command.Trace model given seed index steps, read, refl))
+no_file words (command.Expand model) read none = absurd (none model (command.Expand model, read, refl))
+no_file words (command.Make stations seed workers) read none = refl
 no_file words command.Help read none = refl
 
 -- the file that is opened is the one that the words name
@@ -65,6 +67,9 @@ opened_by words (command.Check model property given seed test limit workers) rea
     inr (once.0, (model, (command.Check model property given seed test limit workers, read, refl), once.1))
 opened_by words (command.Trace model given seed index steps) read Same Once opened none (inl same) = inl same
 opened_by words (command.Trace model given seed index steps) read Same Once opened none (inr once) = inr (once.0, (model, (command.Trace model given seed index steps, read, refl), once.1))
+opened_by words (command.Expand model) read Same Once opened none (inl same) = inl same
+opened_by words (command.Expand model) read Same Once opened none (inr once) = inr (once.0, (model, (command.Expand model, read, refl), once.1))
+opened_by words (command.Make stations seed workers) read Same Once opened none h = inl (none refl)
 opened_by words command.Help read Same Once opened none h = inl (none refl)
 
 -- so is the file of which something is taken
@@ -77,4 +82,7 @@ taken_by words (command.Check model property given seed test limit workers) read
     inr (model, (command.Check model property given seed test limit workers, read, refl), takes)
 taken_by words (command.Trace model given seed index steps) read (Some files) most before after none (inl keeps) = inl keeps
 taken_by words (command.Trace model given seed index steps) read (Some files) most before after none (inr takes) = inr (model, (command.Trace model given seed index steps, read, refl), takes)
+taken_by words (command.Expand model) read (Some files) most before after none (inl keeps) = inl keeps
+taken_by words (command.Expand model) read (Some files) most before after none (inr takes) = inr (model, (command.Expand model, read, refl), takes)
+taken_by words (command.Make stations seed workers) read (Some files) most before after none h = inl (none refl)
 taken_by words command.Help read (Some files) most before after none h = inl (none refl)

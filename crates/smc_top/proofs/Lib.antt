@@ -8,3 +8,4 @@ pub mod PrepareLemmas
 pub mod OneRun
 pub mod OneAsked
 pub mod OneReport
+pub mod RingLemmas

@@ -14,7 +14,8 @@ use Rattle.run_goal.specs.Goal.{IsGoal}
 use Rattle.smc_report.specs.declared.reason.Reason.{Reason}
 use Rattle.smc_report.specs.declared.reason.Reason.TheVariants as reason
 use Rattle.front_end.specs.declared.models.Model.{Model}
-use Rattle.front_end.specs.Models.{IsModelOf, ModelTells, is_model}
+use Rattle.prism_syntax.specs.declared.models.FlatText.{FlatText}
+use Rattle.front_end.specs.Models.{HasFlat, IsModelOf, FlatTells, ModelTells, is_flat, is_model}
 use Rattle.front_end.specs.Properties.{IsQuestion, PropertyTells, is_question}
 use Rattle.smc_top.specs.declared.asking.Asked.{Asked}
 use Rattle.smc_top.specs.Asked.{IsJob, AsksCheck, RefusesQuestion, RefusesCheck, refuses_model, refuses_question, refuses_property, refuses_test}
@@ -22,6 +23,10 @@ use Rattle.smc_top.specs.Asked.{IsJob, AsksCheck, RefusesQuestion, RefusesCheck,
 -- a model's text tells one thing at most
 abbrev pub OneModel : Type 0
 OneModel = (text : List ℕ) (given : List Given) (a b : Result Model Reason) → ModelTells text given a → ModelTells text given b → a ≡ b
+
+-- a model's text tells one thing at most by itself
+abbrev pub OneFlat : Type 0
+OneFlat = (text : List ℕ) (a b : Result FlatText Reason) → FlatTells text a → FlatTells text b → a ≡ b
 
 -- a property's text tells one thing at most over a model
 abbrev pub OneProperty : Type 0
@@ -50,6 +55,18 @@ model_or_refused one text given model why p q = not_refused (one text given (Ok 
 -- a model's text is refused for one reason
 pub model_refusal : OneModel → (text : List ℕ) (given : List Given) (why other : Reason) → ModelTells text given (Err why) → ModelTells text given (Err other) → why ≡ other
 model_refusal one text given why other p q = same_reason {X = Model} why other (one text given (Err why) (Err other) p q)
+
+-- a text has one flat text
+pub flats_same : OneFlat → (text : List ℕ) (a b : FlatText) → HasFlat text a → HasFlat text b → a ≡ b
+flats_same one text a b p q = same_told a b (one text (Ok a) (Ok b) (is_flat p) (is_flat q))
+
+-- a text that has a flat text isn't refused
+pub flat_or_refused : OneFlat → (text : List ℕ) (flat : FlatText) (why : Reason) → HasFlat text flat → FlatTells text (Err why) → ⊥
+flat_or_refused one text flat why p q = not_refused (one text (Ok flat) (Err why) (is_flat p) q)
+
+-- a text is refused for one reason
+pub flat_refusal : OneFlat → (text : List ℕ) (why other : Reason) → FlatTells text (Err why) → FlatTells text (Err other) → why ≡ other
+flat_refusal one text why other p q = same_reason {X = FlatText} why other (one text (Err why) (Err other) p q)
 
 -- a property is one question over a text's model
 questions_same : OneModel → OneProperty → (text property : List ℕ) (given : List Given) (m n : Model) (a b : Path × Claim) → IsModelOf text given m → IsModelOf text given n

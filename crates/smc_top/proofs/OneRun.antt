@@ -77,6 +77,8 @@ bytes_same : (settings : Settings) (claim : Claim) (end : End) (m n : ℕ) (s t 
 bytes_same (command.Check model property given seed test limit workers) claim end m n s t lines same =
     let causes = causes_same end.cause end m n s t same in rw causes refl
 bytes_same (command.Trace model given seed index steps) claim end m n s t lines same = refl
+bytes_same (command.Expand model) claim end m n s t lines same = refl
+bytes_same (command.Make stations seed workers) claim end m n s t lines same = refl
 bytes_same command.Help claim end m n s t lines same = refl
 
 -- the bytes of the report of a run, over the end of another report of it

@@ -51,8 +51,10 @@ answers_read watched settings told bytes name text same whole made given passed 
 
 -- a text that is too long is refused by each command that reads one
 long_refused : (settings : Settings) (text name : List ℕ) → file_of settings ≡ Some name → most_model_bytes < length text → Refuses settings text (reason.TooLong subject.Model)
-long_refused (command.Check model property given seed test limit workers) text name named long = refuses_model (models.is_not_cut (stages.is_long long))
-long_refused (command.Trace model given seed index steps) text name named long = models.is_not_cut (stages.is_long long)
+long_refused (command.Check model property given seed test limit workers) text name named long = refuses_model (models.has_no_flat (models.is_not_cut (stages.is_long long)))
+long_refused (command.Trace model given seed index steps) text name named long = models.has_no_flat (models.is_not_cut (stages.is_long long))
+long_refused (command.Expand model) text name named long = models.is_not_cut (stages.is_long long)
+long_refused (command.Make stations seed workers) text name named long = absurd cc
 long_refused command.Help text name named long = absurd cc
 
 -- where the file is too long its refusal is answered over the files

@@ -1,5 +1,5 @@
 -- The statuses of refusals, of runs and of traces.
-use Rattle.std.proofs.Common.{◌≡◌, ◌≢◌, ℕ, ◌≤◌, List, Ok, Err, Result, refl, arith}
+use Rattle.std.proofs.Common.{◌≡◌, ◌≢◌, ℕ, ◌≤◌, List, [], Ok, Err, Result, refl, arith}
 use Rattle.std.specs.Bool.{⊤}
 use Rattle.chain_model.specs.declared.constants.Given.{Given}
 use Rattle.chain_model.specs.declared.job.Path.{Path}
@@ -12,6 +12,8 @@ use Rattle.stop_rules.specs.declared.end.Cause.TheVariants as cause
 use Rattle.smc_settings.specs.declared.commands.Settings.{Settings}
 use Rattle.smc_settings.specs.declared.commands.Settings.TheVariants as command
 use Rattle.smc_settings.specs.declared.commands.TestWords.{TestWords}
+use Rattle.model_gen.specs.Ring.{ring}
+use Rattle.smc_top.specs.RingCheck.{ring_property, ring_test, most_ring_traces}
 use Rattle.smc_report.specs.declared.reason.Reason.{Reason}
 use Rattle.smc_report.specs.declared.reason.Reason.TheVariants as reason
 use Rattle.smc_report.specs.declared.reason.Subject.{Subject}
@@ -63,11 +65,16 @@ flat_status : (flat : FlatText) (given : List Given) (why : Reason) → models.R
 flat_status flat given why (models.has_no_values is) = refl
 flat_status flat given why (models.has_no_type values is) = refl
 
+-- a text without a flat text is refused with the status of a model
+pub flat_told_status : (text : List ℕ) (told : Result FlatText Reason) → models.FlatTells text told → HasStatus 5 told
+flat_told_status text told (models.is_not_cut cut) = cut_status subject.Model most_model_bytes text (Err _) cut
+flat_told_status text told (models.is_not_parsed cut parsed) = refl
+flat_told_status text told (models.is_not_expanded tree refuses) = refl
+flat_told_status text told (models.is_flat has) = tt
+
 -- a model is refused with its status
 pub model_status : (text : List ℕ) (given : List Given) (told : Result Model Reason) → models.ModelTells text given told → HasStatus 5 told
-model_status text given told (models.is_not_cut cut) = cut_status subject.Model most_model_bytes text (Err _) cut
-model_status text given told (models.is_not_parsed cut parsed) = refl
-model_status text given told (models.is_not_expanded tree refuses) = refl
+model_status text given told (models.has_no_flat {why} tells) = flat_told_status text (Err why) tells
 model_status text given told (models.is_not_typed flat refuses) = flat_status _ given _ refuses
 model_status text given told (models.is_model is) = tt
 
@@ -97,6 +104,8 @@ check_status text property given test limit why (asking.refuses_question {model}
 pub refused_status : (settings : Settings) (text : List ℕ) (why : Reason) → asking.Refuses settings text why → IsTextStatus (status_of why)
 refused_status (command.Check model property given seed test limit workers) text why refuses = check_status text property given test limit why refuses
 refused_status (command.Trace model given seed index steps) text why refuses = let is = model_status text given (Err why) refuses in (omega (arith, is), omega (arith, is))
+refused_status (command.Expand model) text why refuses = let is = flat_told_status text (Err why) refuses in (omega (arith, is), omega (arith, is))
+refused_status (command.Make stations seed workers) text why refuses = check_status (ring stations) (ring_property stations) [] ring_test most_ring_traces why refuses
 refused_status command.Help text why refuses = absurd refuses
 
 -- an exit status up to 8 that isn't that of a read fault is none of a call that was cut short

@@ -1,5 +1,5 @@
 -- The report of words over files: the status that the program ends with, and the bytes that it writes.
-use Rattle.std.specs.Prelude.{◌≡◌, ℕ, ◌+◌, List, [], Option, Some, None, Result, Ok, Err}
+use Rattle.std.specs.Prelude.{◌≡◌, ℕ, ◌+◌, List, [], ◌++◌, length, Option, Some, None, Result, Ok, Err}
 use Rattle.trace_streams.specs.Draws.{draw_at}
 use Rattle.smc_io.specs.Files.{Named, bytes_at}
 use Rattle.chain_model.specs.declared.chain.Chain.{Chain}
@@ -14,6 +14,9 @@ use Rattle.stop_rules.specs.declared.end.End.{End}
 use Rattle.stop_rules.specs.Observers.{Observation}
 use Rattle.stop_rules.specs.Run.{EndsRun}
 use Rattle.sampling_run.specs.Drawn.{AreLines}
+use Rattle.prism_syntax.specs.declared.models.FlatText.{FlatText}
+use Rattle.prism_print.specs.Printed.{printed}
+use Rattle.model_gen.specs.Ring.{ring}
 use Rattle.smc_settings.specs.declared.commands.Settings.{Settings}
 use Rattle.smc_settings.specs.declared.commands.Settings.TheVariants as command
 use Rattle.smc_settings.specs.Settings.{IsSettings}
@@ -26,12 +29,13 @@ use Rattle.smc_report.specs.Report.{check_report}
 use Rattle.trace_report.specs.States.{configuration_after}
 use Rattle.trace_report.specs.Report.{trace_text}
 use Rattle.front_end.specs.declared.models.Model.{Model}
-use Rattle.front_end.specs.Models.{IsModelOf}
+use Rattle.front_end.specs.Models.{HasFlat, IsModelOf}
 use Rattle.smc_top.specs.declared.asking.Asked.{Asked}
 use Rattle.smc_top.specs.declared.report.Report.{Report}
 use Rattle.smc_top.specs.declared.status.Status.{Status}
 use Rattle.smc_top.specs.declared.status.Status.TheVariants.{Accepted, Rejected, Undecided, TraceFault as TraceFaulted}
 use Rattle.smc_top.specs.Codes.{code_of}
+use Rattle.smc_top.specs.RingCheck.{ring_check, ring_lines}
 use Rattle.smc_top.specs.Asked.{file_of, Asks, Refuses}
 
 -- the report of a refusal: its line, and its status
@@ -71,13 +75,29 @@ pub record IsTraced (chain : Chain) (seed index steps : ℕ) (report : Report) :
   pub status : report.status ≡ status_of_trace (configuration_after chain (draw_at seed index) steps)
   pub bytes : report.bytes ≡ trace_text chain (draw_at seed index) steps
 
+-- what `check` reports on a text: the report of the run that it asks for
+pub record IsChecked (watched : List Observation) (settings : Settings) (text : List ℕ) (report : Report) : Type 0 where
+  pub asked : Asked
+  pub asks : Asks settings text asked
+  pub run : IsRun settings watched asked report
+
+-- what `make` reports on a ring: two lines, and then what `check` reports on its text
+pub record IsRingReport (watched : List Observation) (stations : ℕ) (settings : Settings) (text : List ℕ) (report : Report) : Type 0 where
+  pub checked : Report
+  pub is_checked : IsChecked watched settings text checked
+  pub status : report.status ≡ checked.status
+  pub bytes : report.bytes ≡ ring_lines stations (length text) ++ checked.bytes
+
 -- what a command reports on a model's text that it doesn't refuse
 abbrev pub Reports : List Observation → Settings → List ℕ → Report → Type 0
 Reports watched (command.Check model property given seed test limit workers) text report =
-    (asked : Asked) × Asks (command.Check model property given seed test limit workers) text asked
-    × IsRun (command.Check model property given seed test limit workers) watched asked report
+    IsChecked watched (command.Check model property given seed test limit workers) text report
 Reports watched (command.Trace model given seed index steps) text report =
     (read : Model) × IsModelOf text given read × IsTraced read.chain seed index steps report
+Reports watched (command.Expand model) text report =
+    (flat : FlatText) × HasFlat text flat × (report ≡ record { status = Accepted; bytes = printed flat })
+Reports watched (command.Make stations seed workers) text report =
+    IsRingReport watched stations (ring_check stations seed workers) (ring stations) report
 Reports watched command.Help text report = report ≡ record { status = Accepted; bytes = commands_line }
 
 -- what settings are answered over a model's text: the first refusal, or else the command's report

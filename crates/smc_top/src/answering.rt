@@ -8,6 +8,8 @@ ghost use Rattle.smc_report.specs.Help.{commands_line};
 ghost use Rattle.smc_top.specs.Report.{IsAnswer};
 
 use crate::checking::check;
+use crate::expanding::expand;
+use crate::making::make;
 use crate::report::Report;
 use crate::status::Status;
 use crate::tracing::trace;
@@ -16,7 +18,7 @@ use smc_settings::Settings;
 use std::alloc::{AllocError, Global};
 use stop_rules::Observer;
 
-/// What settings are answered over a model's text, of which `help` reads nothing.
+/// What settings are answered over a model's text, of which `make` and `help` read nothing.
 pub(crate) fn answer(
     alloc: Global,
     settings: &Settings,
@@ -30,6 +32,12 @@ pub(crate) fn answer(
     match settings {
         Settings::Check { .. } => check(alloc, settings, text, watch),
         Settings::Trace { .. } => trace(alloc, settings, text),
+        Settings::Expand { .. } => expand(alloc, text),
+        Settings::Make {
+            stations,
+            seed,
+            workers,
+        } => make(alloc, *stations, *seed, *workers, watch),
         Settings::Help => help(alloc),
     }
 }

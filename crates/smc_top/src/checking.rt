@@ -42,7 +42,7 @@ pub(crate) fn check(
 }
 
 /// The report of the run that is asked for.
-fn sampled(
+pub(crate) fn sampled(
     alloc: Global,
     settings: &Settings,
     asked: &Asked,

@@ -6,7 +6,7 @@ ghost use Rattle.stop_rules.specs.Observers.{Observation};
 ghost use Rattle.smc_top.specs.Report.{IsReport};
 ghost use Rattle.smc_top.specs.declared.report.Report.{Report};
 
-use front_end::{one_model_law, one_property_law};
+use front_end::{one_flat_law, one_model_law, one_property_law};
 use smc_settings::one_settings;
 use stop_rules::one_end;
 
@@ -16,6 +16,7 @@ pub fn one_report()
         → IsReport words files watched a → IsReport words files watched b → a ≡ b }
 {
     one_settings();
+    one_flat_law();
     one_model_law();
     one_property_law();
     one_end();

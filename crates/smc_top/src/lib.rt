@@ -4,8 +4,10 @@
 mod answering;
 mod asking;
 mod checking;
+mod expanding;
 mod gate;
 mod laws;
+mod making;
 mod prepare;
 mod report;
 mod status;

@@ -104,6 +104,8 @@ fn prepare_for<S: Source>(
             source,
             watch,
         ),
+        Settings::Expand { model } => prepare_file(alloc, settings, model.as_str(), source, watch),
+        Settings::Make { .. } => lacking_memory(answer(alloc, settings, &[], watch)),
         Settings::Help => lacking_memory(answer(alloc, settings, &[], watch)),
     }
 }

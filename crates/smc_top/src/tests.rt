@@ -1,12 +1,15 @@
 //! Runs over files and a sink in memory, against tables of values from outside.
 
+mod expansions;
 mod limits;
 mod models;
 mod outside;
 mod refusals;
 mod reports;
+mod rings;
 mod seeds;
 mod traces;
+mod watched;
 mod words;
 
 ghost use Rattle.std.specs.Prelude.{◌^◌, ◌-◌, ◌<◌};

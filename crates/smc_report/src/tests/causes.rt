@@ -64,6 +64,6 @@ fn a_cause_names_a_variable_or_a_command_by_its_number(rt: HostRuntime) -> Resul
 #[test]
 fn help_lists_the_commands(rt: HostRuntime) -> Result<(), Fail> {
     let line = help_line(rt.alloc())?;
-    assert!(rt; line.as_slice() == b"commands: check trace help\n".as_slice());
+    assert!(rt; line.as_slice() == b"commands: check trace expand make help\n".as_slice());
     Ok(())
 }

@@ -114,7 +114,7 @@ static CASES: [Case; 19] = [
         most: 4096,
         fails_sink: 0,
         status: 0,
-        written: "commands: check trace help\n",
+        written: "commands: check trace expand make help\n",
     },
     Case {
         words: "check|--model=M",

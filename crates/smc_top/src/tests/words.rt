@@ -14,10 +14,10 @@ static REFUSED: [&str; 34] = [
     "check|--model=M|--property=P>=1/2 [ F<=1 x=1 ]|--plan=1,0|--workers=65",
     "trace|--model=M|--steps=10001",
     "check|--model|-x",
-    "make|--stations=3",
+    "make|--stations=1",
     "make|--stations=4",
-    "make|--stations=63",
-    "expand|--model=M",
+    "make|--stations=65",
+    "expand|--model=M|--const=N=1",
     "estimate|--model=M|--property=P=? [ F<=1 x=1 ]|--samples=3|--grid=4|--gamma=1/4",
     "log|--model=M|--property=P>=1/2 [ F<=1 x=1 ]|--plan=10,7",
     "recheck|--log=L",
@@ -56,7 +56,7 @@ const EIGHT: &str = "result: accepted\n\
 
 /// Words that are read.
 static READ: [Row; 6] = [
-    ("help", "", 0, "commands: check trace help\n"),
+    ("help", "", 0, "commands: check trace expand make help\n"),
     (
         "check|--model=M|--property=P>=1/2 [ F<=1 x=1 ]|--plan=10,7",
         STEP,

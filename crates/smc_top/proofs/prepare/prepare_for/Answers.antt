@@ -27,6 +27,20 @@ returns-in-Trace-clause-taken g c =
     let named : file_of c.args.settings.now ≡ Some c.as_str-in-Trace.result.now = ap file_of c.in-Trace.is ∙ ap (λ (n : List ℕ). Some n) (sym c.as_str-in-Trace.ensures) in
     rw named c.prepare_file-in-Trace.ensures.taken
 
+pub returns-in-Expand-clause-answer : goal.returns-in-Expand-clause-answer
+returns-in-Expand-clause-answer g c =
+    let named : file_of c.args.settings.now ≡ Some c.as_str-in-Expand.result.now = ap file_of c.in-Expand.is ∙ ap (λ (n : List ℕ). Some n) (sym c.as_str-in-Expand.ensures) in
+    answers_named _ c.args.settings.now (g.S.Source.files c.args.source.now) c.as_str-in-Expand.result.now c.prepare_file-in-Expand.result named c.prepare_file-in-Expand.ensures.answer
+
+pub returns-in-Expand-clause-taken : goal.returns-in-Expand-clause-taken
+returns-in-Expand-clause-taken g c =
+    let named : file_of c.args.settings.now ≡ Some c.as_str-in-Expand.result.now = ap file_of c.in-Expand.is ∙ ap (λ (n : List ℕ). Some n) (sym c.as_str-in-Expand.ensures) in
+    rw named c.prepare_file-in-Expand.ensures.taken
+
+pub returns-in-Make-clause-answer : goal.returns-in-Make-clause-answer
+returns-in-Make-clause-answer g c =
+    answers_without _ c.args.settings.now (g.S.Source.files c.args.source.now) (ap file_of c.in-Make.is) c.answer.result c.lacking_memory.result c.lacking_memory.ensures c.answer.ensures
+
 pub returns-in-Help-clause-answer : goal.returns-in-Help-clause-answer
 returns-in-Help-clause-answer g c =
-    answers_without _ c.args.settings.now (g.S.Source.files c.args.source.now) (ap file_of c.in-Help.is) c.answer.result c.lacking_memory.result c.lacking_memory.ensures c.answer.ensures
+    answers_without _ c.args.settings.now (g.S.Source.files c.args.source.now) (ap file_of c.in-Help.is) c.answer-in-Help.result c.lacking_memory-in-Help.result c.lacking_memory-in-Help.ensures c.answer-in-Help.ensures
