@@ -195,6 +195,8 @@ class Parser:
             kind = self.need("rewards", *items)
             if kind == "rewards":
                 while not self.take("endrewards"):
+                    if self.tokens[self.at][0] == "end":
+                        raise Wrong("a rewards block has no end")
                     self.at += 1
             elif kind == "global":
                 items[kind].append(self.variable())

@@ -141,8 +141,8 @@ fn floors(alloc: Global, calls: usize) -> Result<Typed, AllocError> {
     Ok(tree)
 }
 
-/// Whether the deepest expression of signs has the value of its variable: formulas within one another make it as deep as
-/// it has nodes, 65,521.
+/// Whether an expression of signs that is as deep as it has nodes, 65,521, has the value of its variable. Typed trees of
+/// texts within the limits are less than half so deep.
 fn are_floors_evaluated(alloc: Global) -> Result<bool, AllocError> {
     let tree = floors(alloc, 1_008)?;
     match chain(alloc, 1, &[], &[])? {
