@@ -9,7 +9,6 @@ mod reports;
 mod rings;
 mod seeds;
 mod traces;
-mod watched;
 mod words;
 
 ghost use Rattle.std.specs.Prelude.{◌^◌, ◌-◌, ◌<◌};
