@@ -455,30 +455,3 @@ real_token v formed =
     ap₂ (λ n d. decimal_of false n (pos 0 -ℤ pos d)) number long ∙ back.value in
     subst (λ kind. IsToken (front ++ (46 ∷ part)) kind) (ap (number_kind k.Real) value)
     (token.real (front ++ (46 ∷ part)) (front ++ part) (pos 0 -ℤ pos (length part)) spelling (λ numeral. no_point front part numeral.1))
-
--- the shape of a number with a point: digits, a point, digits
-pub record HasPoint (bytes : List ℕ) : Type 0 where
-  pub front : List ℕ
-  pub part : List ℕ
-  pub cut : bytes ≡ front ++ (46 ∷ part)
-  pub before : IsNumeral 10 front
-  pub after : IsNumeral 10 part
-
-pub real_shape : (v : Fraction) → IsFormedKind (k.Real v) → HasPoint (spelled (k.Real v))
-real_shape v formed =
-    let back = read_back v (read_real formed.0 (Some (k.Real v)) v formed.1 refl) in
-    let whole = unsigned_abs v.num / v.den in
-    let long = length-map-range_with_len (digit_after_point v) 0 (decimals_of v) in
-    record {
-      front = decimal whole;
-      part = map (digit_after_point v) (range_with_len 0 (decimals_of v));
-      cut = refl;
-      before = (decimal_is_IsNumeral whole (omega (arith, back.small, div-le_self (unsigned_abs v.num) v.den))).0;
-      after = (omega (arith, long), digits_are v (range_with_len 0 (decimals_of v)));
-    }
-
--- the shape of a whole number: digits
-pub whole_shape : (v : Fraction) → IsFormedKind (k.Whole v) → IsNumeral 10 (spelled (k.Whole v))
-whole_shape v formed =
-    let is = whole_is v (read_whole formed.0 (Some (k.Whole v)) v formed.1 refl) in
-    (decimal_is_IsNumeral (unsigned_abs v.num) (omega (arith, is.0, is.1))).0
