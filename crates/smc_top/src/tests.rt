@@ -1,14 +1,19 @@
 //! Runs over files and a sink in memory, against tables of values from outside.
 
 mod expansions;
+mod fault_runs;
+mod first_refusals;
 mod limits;
 mod models;
 mod outside;
-mod refusals;
-mod reports;
+mod plan_runs;
+mod refused_models;
+mod refused_properties;
 mod rings;
 mod seeds;
 mod traces;
+mod wald_runs;
+mod watched;
 mod words;
 
 ghost use Rattle.std.specs.Prelude.{◌^◌, ◌-◌, ◌<◌};
@@ -21,6 +26,21 @@ use stop_rules::{Batches, LongestRun, Observer};
 
 /// The words of a run with a bar between each two, the text of the file `M`, the exit status, and what is written.
 type Row = (&'static str, &'static str, u8, &'static str);
+
+/// A check with all defaults.
+const CHECK: &str = "check|--model=M|--property=P>=0.9 [ F<=1 x=1 ]";
+
+/// 207 successes in a row, and Wald's test.
+const SURE: &str = "result: accepted\n\
+    samples: 207\n\
+    successes: 207\n\
+    failures: 0\n\
+    claim: at least\n\
+    test: wald p0 91/100 p1 89/100 alpha 1/100 beta 1/100\n\
+    limit: 1000000\n\
+    seed: 1\n\
+    longest run of true: 207\n\
+    batches of 1000: 0 full, least 0, most 0\n";
 
 /// Room for what the longest run of a table writes.
 const ROOM: u64 = 1 << 20;

@@ -10,21 +10,6 @@ use std::thread::Threads;
 /// after them.
 type Parts = (&'static str, &'static str, u32, &'static str);
 
-/// A check with all defaults.
-const CHECK: &str = "check|--model=M|--property=P>=0.9 [ F<=1 x=1 ]";
-
-/// 207 successes in a row, and Wald's test.
-const SURE: &str = "result: accepted\n\
-    samples: 207\n\
-    successes: 207\n\
-    failures: 0\n\
-    claim: at least\n\
-    test: wald p0 91/100 p1 89/100 alpha 1/100 beta 1/100\n\
-    limit: 1000000\n\
-    seed: 1\n\
-    longest run of true: 207\n\
-    batches of 1000: 0 full, least 0, most 0\n";
-
 /// One success, and a plan of one trace.
 const ONE: &str = "result: accepted\n\
     samples: 1\n\

@@ -7,21 +7,6 @@ use std::alloc::AllocError;
 use std::test::Fail;
 use std::thread::Threads;
 
-/// A check with all defaults.
-const CHECK: &str = "check|--model=M|--property=P>=0.9 [ F<=1 x=1 ]";
-
-/// 207 successes in a row, and Wald's test.
-const SURE: &str = "result: accepted\n\
-    samples: 207\n\
-    successes: 207\n\
-    failures: 0\n\
-    claim: at least\n\
-    test: wald p0 91/100 p1 89/100 alpha 1/100 beta 1/100\n\
-    limit: 1000000\n\
-    seed: 1\n\
-    longest run of true: 207\n\
-    batches of 1000: 0 full, least 0, most 0\n";
-
 /// A run with these words where a call of the source fails, and one of the sink, whose room is bounded and which takes so many
 /// bytes in a call; calls are counted from 1. Then the exit status, and what is written.
 struct Case {
