@@ -1,5 +1,5 @@
 -- What the calls tell of the tokens, put together from what their parts tell.
-use Rattle.std.proofs.Common.{◌≡◌, ℕ, ◌+◌, ◌≤◌, min, false, true, List, [], ◌∷◌, ◌++◌, length, Some, None, refl, sym, ap, ◌∙◌, subst, arith}
+use Rattle.std.proofs.Common.{◌≡◌, ℕ, ◌+◌, min, false, true, List, [], ◌∷◌, ◌++◌, length, Some, None, refl, sym, ap, ◌∙◌, subst}
 use Rattle.std.specs.Prelude.{Result, Ok, Err, IsSome}
 use Rattle.std.specs.Result.{IsErrAnd}
 use Rattle.prism_syntax.specs.declared.labels.Labels.{Labels}
@@ -24,8 +24,7 @@ use Rattle.prism_reading.proofs.TerminalLemmas.{terminal_kinds}
 use Rattle.prism_expression.specs.Follow.{goes_on}
 use Rattle.prism_expression.specs.Longest.{IsLongest}
 use Rattle.prism_expression.specs.Parts.{IsBranches, IsArguments, IsCalled, BeginsWith, BeginsWithout}
-use Rattle.prism_expression.proofs.FoundLemmas
-use Rattle.prism_expression.proofs.FoundLemmas.{Found, Missing, Cut, cut_on, longest_found, longest_cut, found_longest, fails_missing, missing_fails, closed_found, closed_parses, parses_cut, behind_found, behind_missing, past_rest}
+use Rattle.prism_expression.proofs.FoundLemmas.{Found, Missing, Cut, cut_on, longest_found, longest_cut, found_longest, fails_missing, missing_fails, closed_found, closed_parses, parses_cut, behind_found, behind_missing}
 use Rattle.prism_expression.proofs.NextLemmas.{with_kinds, with_cut, without_kinds}
 use Rattle.prism_expression.proofs.ChainLemmas.{ChainSoFar, chain_missing, chain_first, chain_next, chain_end, chain_stop}
 use Rattle.prism_expression.proofs.UntilLemmas.{until_agrees, until_missing, until_open, until_parses}

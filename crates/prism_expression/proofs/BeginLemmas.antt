@@ -1,5 +1,5 @@
 -- Tokens begin a level exactly where they are a prefix of one of its texts.
-use Rattle.std.proofs.Common.{◌≡◌, ℕ, suc, ◌+◌, true, List, [], ◌∷◌, ◌++◌, length, Some, refl, sym, ap, ◌∙◌, subst, ⊎_elim, arith}
+use Rattle.std.proofs.Common.{◌≡◌, suc, ◌+◌, true, List, [], ◌∷◌, ◌++◌, length, Some, refl, sym, ap, ◌∙◌, subst, ⊎_elim, arith}
 use Rattle.std.proofs.lemmas.List.{append_assoc, append-nil, length-append}
 use Rattle.prism_syntax.specs.declared.labels.Labels.{Labels}
 use Rattle.prism_syntax.specs.declared.tokens.Kind.{Kind}
@@ -13,10 +13,9 @@ use Rattle.prism_syntax.specs.declared.precedence.Precedence.TheVariants as rule
 use Rattle.prism_syntax.specs.Precedence.{inner, is_chain, is_sign, signed, operator, function, takes}
 use Rattle.prism_syntax.specs.Expressions.{Derives, chain, bare, sign, plain, conditional, leaf, paren, call, ChainTail, end, link, Arguments, last, argument, level}
 use Rattle.prism_reading.specs.Reach.{IsPrefix}
-use Rattle.prism_reading.specs.Sequences.{ended}
 use Rattle.prism_reading.proofs.ReachLemmas.{whole_prefix, cut_twice, heads, tails}
 use Rattle.prism_expression.specs.Begins.{Begins, empty, whole, in_first, in_operand, in_bare, in_signed, in_condition, in_then, in_else, in_parentheses, in_function, in_argument, in_further_argument}
-use Rattle.prism_expression.specs.Parts.{IsArguments, arguments, IsCalled, called}
+use Rattle.prism_expression.specs.Parts.{IsArguments, called}
 use Rattle.prism_expression.proofs.TextLemmas.{ChainText, chain_text, chain_texts}
 use Rattle.prism_expression.proofs.TruthLemmas.{truth, derives_nothing}
 use Rattle.prism_expression.proofs.ChainLemmas.{operand_begins, operator_begins, tail_more}

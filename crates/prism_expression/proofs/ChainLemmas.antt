@@ -1,5 +1,5 @@
 -- A chain as its operands are parsed one after another.
-use Rattle.std.proofs.Common.{◌≡◌, ℕ, ◌+◌, ◌≤◌, min, true, List, [], ◌∷◌, ◌++◌, length, Some, refl, sym, ap, ◌∙◌, subst, ◌⊎◌, inl, inr, ⊎_elim, arith}
+use Rattle.std.proofs.Common.{◌≡◌, ℕ, ◌≤◌, min, true, List, [], ◌∷◌, ◌++◌, length, Some, refl, sym, ap, ◌∙◌, subst, ◌⊎◌, inl, inr, ⊎_elim, arith}
 use Rattle.std.specs.Prelude.{IsSome}
 use Rattle.std.proofs.lemmas.List.{append_assoc, append-nil, length-append}
 use Rattle.prism_syntax.specs.declared.labels.Labels.{Labels}
@@ -9,8 +9,8 @@ use Rattle.prism_syntax.specs.declared.expressions.Op.{Op}
 use Rattle.prism_syntax.specs.declared.precedence.Precedence.{Precedence}
 use Rattle.prism_syntax.specs.Precedence.{inner, is_chain, operator}
 use Rattle.prism_syntax.specs.Expressions.{Derives, chain, ChainTail, end, link, level}
-use Rattle.prism_reading.specs.Reach.{IsPrefix, IsReach}
-use Rattle.prism_reading.proofs.ReachLemmas.{Begun, begun, begun_behind, begun_lesser, reach_begun, reach_same, whole_prefix, cut_twice, heads, tails}
+use Rattle.prism_reading.specs.Reach.{IsPrefix}
+use Rattle.prism_reading.proofs.ReachLemmas.{Begun, begun, begun_behind, begun_lesser, reach_begun, reach_same, cut_twice, heads, tails}
 use Rattle.prism_expression.specs.Follow.{goes_on}
 use Rattle.prism_expression.proofs.RankLemmas.{operand_stops}
 use Rattle.prism_expression.proofs.TextLemmas.{ChainText, chain_text, chain_texts}

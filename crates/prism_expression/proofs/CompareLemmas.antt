@@ -1,5 +1,5 @@
 -- Two texts of a level at the front of one list of tokens: they are one text with one tree, or the longer goes on after the shorter.
-use Rattle.std.proofs.Common.{◌≡◌, ◌≤◌, ◌<◌, false, List, [], ◌∷◌, ◌++◌, length, ◌⊎◌, inl, inr, ⊎_elim, refl, sym, ap, ◌∙◌, arith}
+use Rattle.std.proofs.Common.{◌≡◌, ◌≤◌, List, [], ◌∷◌, ◌++◌, length, ◌⊎◌, inl, inr, refl, sym, ap, ◌∙◌, arith}
 use Rattle.std.proofs.lemmas.List.{length-append, append_cancel_right}
 use Rattle.prism_syntax.specs.declared.labels.Labels.{Labels}
 use Rattle.prism_syntax.specs.declared.tokens.Kind.{Kind}
@@ -8,7 +8,7 @@ use Rattle.prism_syntax.specs.declared.expressions.Expr.{Expr}
 use Rattle.prism_syntax.specs.declared.expressions.Op.{Op}
 use Rattle.prism_syntax.specs.declared.precedence.Precedence.{Precedence}
 use Rattle.prism_syntax.specs.Expressions.{Derives, chain, bare, sign, plain, conditional, leaf, paren, call, ChainTail, end, link, Arguments, last, argument}
-use Rattle.prism_expression.specs.Follow.{goes_on, Ends, GoesOn}
+use Rattle.prism_expression.specs.Follow.{Ends, GoesOn}
 use Rattle.prism_expression.proofs.RankLemmas.{sign_prefix, false_true}
 use Rattle.prism_expression.proofs.TextLemmas.{chain_texts, prefix_texts, conditional_texts, primary_texts}
 use Rattle.prism_expression.proofs.TwoTextLemmas.{Compared, same, shorter, longer, Compares, unmoved, TailsCompare, ArgumentsCompare, chain_step, end_step, link_step, bare_step, sign_step}

@@ -1,19 +1,16 @@
 -- A condition and the branches after it.
-use Rattle.std.proofs.Common.{◌≡◌, ℕ, ◌+◌, ◌≤◌, min, false, true, List, [], ◌∷◌, ◌++◌, length, refl, sym, ap, ◌∙◌, subst, ◌⊎◌, inl, inr, ⊎_elim, arith}
-use Rattle.std.proofs.lemmas.List.{append_assoc, append-nil, length-append}
+use Rattle.std.proofs.Common.{◌≡◌, ℕ, ◌≤◌, min, true, List, [], ◌∷◌, ◌++◌, length, refl, sym, ap, ◌∙◌, subst, ◌⊎◌, inl, inr, ⊎_elim, arith}
+use Rattle.std.proofs.lemmas.List.{append_assoc, length-append}
 use Rattle.prism_syntax.specs.declared.labels.Labels.{Labels}
 use Rattle.prism_syntax.specs.declared.tokens.Kind.{Kind}
 use Rattle.prism_syntax.specs.declared.tokens.Kind.TheVariants as k
-use Rattle.prism_syntax.specs.declared.tokens.Token.{Token}
 use Rattle.prism_syntax.specs.declared.expressions.Expr.{Expr}
 use Rattle.prism_syntax.specs.declared.expressions.Expr.TheVariants as e
 use Rattle.prism_syntax.specs.declared.precedence.Precedence.TheVariants as rule
-use Rattle.prism_syntax.specs.Tokens.{kinds}
 use Rattle.prism_syntax.specs.Expressions.{Derives, plain, conditional}
 use Rattle.prism_reading.specs.Reach.{IsPrefix, IsReach}
-use Rattle.prism_reading.specs.Reading.{Anything, Parses, Fails}
 use Rattle.prism_reading.specs.Sequences.{Ended, ended}
-use Rattle.prism_reading.proofs.ReachLemmas.{Begun, begun, begun_behind, begun_lesser, reach_begun, reach_same, reach_cons, reach_nil, reach_lesser, whole_prefix, cut_twice, heads, tails}
+use Rattle.prism_reading.proofs.ReachLemmas.{begun, reach_same, reach_cons, reach_nil, reach_lesser, whole_prefix, cut_twice, heads, tails}
 use Rattle.prism_expression.specs.Follow.{goes_on}
 use Rattle.prism_expression.specs.Parts.{IsBranches, branches}
 use Rattle.prism_expression.proofs.RankLemmas.{false_true}

@@ -1,12 +1,12 @@
 -- What is found and what is missing among kinds of tokens, and how it is told of a whole that has a part behind some tokens.
-use Rattle.std.proofs.Common.{◌≡◌, ℕ, ◌+◌, ◌≤◌, min, List, [], ◌∷◌, ◌++◌, length, refl, sym, ap, ◌∙◌, subst, ◌⊎◌, inl, inr, ⊎_elim, arith}
-use Rattle.std.proofs.lemmas.List.{append_assoc, append-nil, length-append, map-append, append_cancel_right}
+use Rattle.std.proofs.Common.{◌≡◌, ℕ, ◌≤◌, List, ◌++◌, length, sym, ap, ◌∙◌, subst, ◌⊎◌, ⊎_elim, arith}
+use Rattle.std.proofs.lemmas.List.{append_assoc, length-append, map-append, append_cancel_right}
 use Rattle.prism_syntax.specs.declared.tokens.Kind.{Kind}
 use Rattle.prism_syntax.specs.declared.tokens.Token.{Token}
 use Rattle.prism_syntax.specs.Tokens.{kinds}
 use Rattle.prism_reading.specs.Reach.{IsPrefix, IsReach}
 use Rattle.prism_reading.specs.Reading.{Anything, Parses, Fails}
-use Rattle.prism_reading.proofs.ReachLemmas.{Begun, begun, begun_behind, reach_begun, whole_prefix, count_kinds}
+use Rattle.prism_reading.proofs.ReachLemmas.{begun, begun_behind, reach_begun, whole_prefix, count_kinds}
 use Rattle.prism_reading.proofs.DefiniteLemmas.{Agrees, closed, found, kinds_cut, reach_within}
 use Rattle.prism_expression.specs.Longest.{IsLongest}
 

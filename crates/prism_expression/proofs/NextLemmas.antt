@@ -1,6 +1,5 @@
 -- Two texts of a level where the one is the longest: what follows the other; and what single tokens stand at the front of some tokens.
-use Rattle.std.proofs.Common.{◌≡◌, ℕ, ◌+◌, ◌≤◌, ◌<◌, false, true, List, [], ◌∷◌, ◌++◌, length, refl, sym, ap, ◌∙◌, subst, ◌⊎◌, inl, inr, ⊎_elim, arith}
-use Rattle.std.proofs.lemmas.List.{append_assoc, append-nil, length-append}
+use Rattle.std.proofs.Common.{◌≡◌, ℕ, ◌+◌, ◌≤◌, ◌<◌, true, List, [], ◌∷◌, ◌++◌, length, refl, sym, ap, ◌∙◌, subst, ◌⊎◌, inl, inr, ⊎_elim, arith}
 use Rattle.prism_syntax.specs.declared.labels.Labels.{Labels}
 use Rattle.prism_syntax.specs.declared.tokens.Kind.{Kind}
 use Rattle.prism_syntax.specs.declared.tokens.Token.{Token}
@@ -8,13 +7,12 @@ use Rattle.prism_syntax.specs.declared.expressions.Expr.{Expr}
 use Rattle.prism_syntax.specs.declared.precedence.Precedence.{Precedence}
 use Rattle.prism_syntax.specs.Tokens.{kinds}
 use Rattle.prism_syntax.specs.Expressions.{Derives}
-use Rattle.prism_expression.specs.Follow.{goes_on, GoesOn, Ends}
+use Rattle.prism_expression.specs.Follow.{goes_on, GoesOn}
 use Rattle.prism_expression.specs.Parts.{BeginsWith, BeginsWithout}
-use Rattle.prism_expression.proofs.RankLemmas.{false_true}
 use Rattle.prism_expression.proofs.TwoTextLemmas.{Compared, same, shorter, longer}
 use Rattle.prism_expression.proofs.CompareLemmas.{compares}
 use Rattle.prism_expression.proofs.FoundLemmas.{Found, Cut}
-use Rattle.prism_reading.proofs.ReachLemmas.{heads, count_kinds}
+use Rattle.prism_reading.proofs.ReachLemmas.{heads}
 
 -- another text ends where the longest does, or before it and goes on there
 pub other_text : {labels : Labels} {l : Precedence} {ts rest : List Kind} {x : Expr} {n : ℕ} (a u : List Kind) (y : Expr) → Found (Derives labels l) ts x rest n → Derives labels l a y → ts ≡ a ++ u

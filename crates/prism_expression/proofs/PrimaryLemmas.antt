@@ -1,6 +1,6 @@
 -- Primaries: expressions in parentheses, calls, and tokens that stand alone.
-use Rattle.std.proofs.Common.{◌≡◌, ℕ, ◌+◌, ◌≤◌, true, List, [], ◌∷◌, ◌++◌, length, Some, None, refl, sym, ap, ◌∙◌, subst, ◌⊎◌, inl, inr, ⊎_elim, arith}
-use Rattle.std.proofs.lemmas.List.{append_assoc, append-nil, length-append}
+use Rattle.std.proofs.Common.{◌≡◌, ℕ, ◌+◌, List, [], ◌∷◌, ◌++◌, length, Some, None, refl, sym, ap, ◌∙◌, subst, ◌⊎◌, inl, inr, ⊎_elim, arith}
+use Rattle.std.proofs.lemmas.List.{length-append}
 use Rattle.std.proofs.lemmas.Option.{none-some}
 use Rattle.prism_syntax.specs.declared.labels.Labels.{Labels}
 use Rattle.prism_syntax.specs.declared.tokens.Kind.{Kind}
@@ -11,7 +11,7 @@ use Rattle.prism_syntax.specs.declared.expressions.Func.{Func}
 use Rattle.prism_syntax.specs.declared.precedence.Precedence.TheVariants as rule
 use Rattle.prism_syntax.specs.Precedence.{atom, function, takes}
 use Rattle.prism_syntax.specs.Expressions.{Derives, leaf, paren, call}
-use Rattle.prism_reading.specs.Reach.{IsPrefix, IsReach}
+use Rattle.prism_reading.specs.Reach.{IsPrefix}
 use Rattle.prism_reading.specs.Sequences.{Ended, ended}
 use Rattle.prism_reading.proofs.ReachLemmas.{whole_prefix, reach_nil, heads, tails}
 use Rattle.prism_expression.specs.Parts.{rest, arguments, IsCalled, called}

@@ -17,7 +17,7 @@ use Rattle.prism_expression.specs.Parts.{BeginsWith, BeginsWithout, AreSigns, Be
 use Rattle.prism_expression.proofs.RankLemmas.{prefix_binds, sign_prefix}
 use Rattle.prism_expression.proofs.TextLemmas.{PrefixText, bare_text, sign_text, prefix_texts}
 use Rattle.prism_expression.proofs.TwoTextLemmas.{no_sign_first}
-use Rattle.prism_expression.proofs.FoundLemmas.{Found, Missing, Behind, behind_found, behind_missing, Cut, cut_on, longest_found, longest_cut, found_longest, fails_missing, missing_fails}
+use Rattle.prism_expression.proofs.FoundLemmas.{Found, Missing, Behind, behind_found, behind_missing, cut_on, longest_found, longest_cut, found_longest, fails_missing, missing_fails}
 use Rattle.prism_expression.proofs.NextLemmas.{without_kinds}
 
 -- one more sign after some

@@ -1,9 +1,7 @@
 -- A truth value is a text of each level, so each level has one.
-use Rattle.std.proofs.Common.{◌≡◌, true, List, [], ◌∷◌, refl}
+use Rattle.std.proofs.Common.{true, [], ◌∷◌, refl}
 use Rattle.prism_syntax.specs.declared.labels.Labels.{Labels}
-use Rattle.prism_syntax.specs.declared.tokens.Kind.{Kind}
 use Rattle.prism_syntax.specs.declared.tokens.Kind.TheVariants as k
-use Rattle.prism_syntax.specs.declared.expressions.Expr.{Expr}
 use Rattle.prism_syntax.specs.declared.expressions.Expr.TheVariants as e
 use Rattle.prism_syntax.specs.declared.precedence.Precedence.{Precedence}
 use Rattle.prism_syntax.specs.declared.precedence.Precedence.TheVariants as rule

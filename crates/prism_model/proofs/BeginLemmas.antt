@@ -1,5 +1,5 @@
 -- Tokens begin each line of a model exactly where they are a prefix of one of its texts.
-use Rattle.std.proofs.Common.{◌≡◌, ◌⊎◌, inl, inr, ℕ, List, [], ◌∷◌, ◌++◌, All, Some, refl, sym, ◌∙◌, ap, subst, append-nil}
+use Rattle.std.proofs.Common.{◌≡◌, ◌⊎◌, inl, inr, List, [], ◌∷◌, ◌++◌, All, Some, refl, sym, ◌∙◌, ap, subst, append-nil}
 use Rattle.prism_syntax.specs.declared.labels.Labels.TheVariants.{Refused}
 use Rattle.prism_syntax.specs.declared.precedence.Precedence.TheVariants as rule
 use Rattle.prism_syntax.specs.declared.tokens.Kind.{Kind}
@@ -14,16 +14,14 @@ use Rattle.prism_syntax.specs.Models as model
 use Rattle.prism_reading.specs.Reach.{IsPrefix}
 use Rattle.prism_reading.specs.Sequences.{IsTerminal, terminal, IsName, Both, both, OneOf}
 use Rattle.prism_reading.specs.Sequences as sequence
-use Rattle.prism_reading.specs.Begins.{BeginsAfter, BeginsTerminal, BeginsName, BeginsBoth, BeginsOneOf, BeginsEach}
-use Rattle.prism_reading.proofs.OverlapLemmas.{Overlap, within, beyond, overlap}
+use Rattle.prism_reading.specs.Begins.{BeginsAfter}
+use Rattle.prism_reading.proofs.OverlapLemmas.{within, beyond, overlap}
 use Rattle.prism_reading.proofs.DefiniteLemmas.{HasText, text_begins, nothing_begins, terminal_has, name_has, quoted_has}
 use Rattle.prism_reading.proofs.BothLemmas.{both_has}
 use Rattle.prism_reading.proofs.MadeLemmas.{Parted, IsMade, is_made}
 use Rattle.prism_reading.proofs.EndedLemmas.{ended_made}
 use Rattle.prism_reading.proofs.EachLemmas.{each_has}
-use Rattle.prism_reading.proofs.SeparatedLemmas.{separated_has}
 use Rattle.prism_reading.proofs.BegunLemmas.{BeginsExactly, terminal_begun, name_begun, quoted_begun, both_begun, one_of_begun, made_begun, each_begun, separated_begun, after_begun}
-use Rattle.prism_expression.specs.Begins.{Begins}
 use Rattle.prism_expression.proofs.BeginLemmas.{begins_prefix, prefix_begins}
 use Rattle.prism_expression.proofs.FormedLemmas.{all_front}
 use Rattle.prism_model.specs.Parts.{IsExprUntil, IsSortWord, word, sort_of, IsSorted, IsOptionalEnded, IsRange, IsActionEnded, AreBranchesEnded, IsRenaming, IsBody, EndsRewards, ends, IsPassed}
@@ -31,9 +29,9 @@ use Rattle.prism_model.specs.Begins.{BeginsNamed, BeginsExpr, BeginsUntil, Begin
 use Rattle.prism_model.specs.Begins as begin
 use Rattle.prism_model.proofs.ExpressionLemmas.{until_has}
 use Rattle.prism_model.proofs.LineLemmas.{optional_made, const_made, formula_made, label_made, variable_made, global_made, assign_made, update_made, weighted_made, branches_made, command_made, pair_made, module_made, rewards_made}
-use Rattle.prism_model.proofs.DefiniteLineLemmas.{word_has, action_has, sorted_has, optional_has, named_rest_has, variable_rest_has, variable_has, assign_end_has, update_has, weighted_has, pair_has, renaming_has, renaming_end_has, renaming_pairs_has}
+use Rattle.prism_model.proofs.DefiniteLineLemmas.{word_has, action_has, sorted_has, optional_has, named_rest_has, variable_rest_has, variable_has, assign_end_has, update_has, renaming_has, renaming_end_has, renaming_pairs_has}
 use Rattle.prism_model.proofs.BranchLemmas.{branches_has}
-use Rattle.prism_model.proofs.ModuleLemmas.{guard_has, commands_has, body_has, module_rest_has}
+use Rattle.prism_model.proofs.ModuleLemmas.{guard_has, commands_has, module_rest_has}
 use Rattle.prism_model.proofs.RewardsLemmas.{GoesOn, ends_has}
 
 named_begun : {Y : Type 0} {B : List Kind → Y → Type 0} {Starts : List Kind → Type 0} → HasText B → BeginsExactly B Starts → BeginsExactly (Both IsName B) (BeginsNamed Starts)

@@ -1,20 +1,18 @@
 -- The branches of a command: an update alone, or branches with their weights, told apart by at most three tokens.
-use Rattle.std.proofs.Common.{◌≡◌, ◌⊎◌, inl, inr, ⊎_elim, ℕ, ◌≤◌, List, [], ◌∷◌, ◌++◌, length, Bool, true, false, Option, Some, None, Bor, refl, sym, ◌∙◌, ap, subst, arith, length-append, append_assoc, append-nil}
+use Rattle.std.proofs.Common.{◌≡◌, ◌⊎◌, inl, inr, ⊎_elim, ℕ, ◌≤◌, List, [], ◌∷◌, ◌++◌, length, Bool, true, false, Option, Some, None, Bor, refl, sym, ◌∙◌, ap, subst, arith, length-append, append_assoc}
 use Rattle.std.specs.Option.{MatchOption, is_some}
 use Rattle.std.specs.Prelude.{MatchBool}
-use Rattle.prism_syntax.specs.declared.labels.Labels.TheVariants.{Refused}
 use Rattle.prism_syntax.specs.declared.tokens.Kind.{Kind}
 use Rattle.prism_syntax.specs.declared.tokens.Kind.TheVariants as k
 use Rattle.prism_syntax.specs.declared.tokens.Token.{Token}
 use Rattle.prism_syntax.specs.declared.expressions.Expr.{Expr}
 use Rattle.prism_syntax.specs.declared.commands.Branch.{Branch}
 use Rattle.prism_syntax.specs.Tokens.{kinds}
-use Rattle.prism_syntax.specs.Expressions.{IsExpr}
 use Rattle.prism_syntax.specs.Models.{IsAssign, IsUpdate, IsWeighted, Separated}
 use Rattle.prism_syntax.specs.Models as model
 use Rattle.prism_reading.specs.Reach.{IsPrefix}
 use Rattle.prism_reading.specs.Reading.{Anything, Parses, Fails}
-use Rattle.prism_reading.specs.Sequences.{IsTerminal, terminal, Both, both, OneOf}
+use Rattle.prism_reading.specs.Sequences.{IsTerminal, terminal, both, OneOf}
 use Rattle.prism_reading.proofs.DefiniteLemmas.{IsDefinite, HasText, terminal_definite, terminal_has}
 use Rattle.prism_reading.proofs.BothLemmas.{both_definite, both_has}
 use Rattle.prism_reading.proofs.MadeLemmas.{made_definite, made_has, made_missing}

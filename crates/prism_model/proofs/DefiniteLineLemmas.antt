@@ -1,22 +1,21 @@
 -- Each line of a model has at most one text at the front of some tokens, has one at all, and begins with one of some tokens.
-use Rattle.std.proofs.Common.{◌≡◌, ◌⊎◌, inl, inr, ℕ, List, [], ◌∷◌, ◌++◌, false, Some, refl, sym, ◌∙◌, ap, subst}
+use Rattle.std.proofs.Common.{◌≡◌, ◌⊎◌, ℕ, List, [], ◌∷◌, ◌++◌, Some, refl, sym, ◌∙◌, ap}
 use Rattle.prism_syntax.specs.declared.tokens.Kind.{Kind}
 use Rattle.prism_syntax.specs.declared.tokens.Kind.TheVariants as k
 use Rattle.prism_syntax.specs.declared.models.SortWord.{SortWord}
 use Rattle.prism_syntax.specs.declared.models.SortWord.TheVariants as sort
-use Rattle.prism_syntax.specs.Models.{IsConst, IsFormula, IsLabel, IsVariable, IsGlobal, IsAssign, IsUpdate, IsWeighted, IsCommand, IsPair, IsModule, Each, Separated}
+use Rattle.prism_syntax.specs.Models.{IsConst, IsFormula, IsLabel, IsVariable, IsGlobal, IsAssign, IsUpdate, IsWeighted, IsPair, Separated}
 use Rattle.prism_reading.specs.Reading.{Anything}
 use Rattle.prism_reading.specs.Sequences.{IsTerminal, IsName, Both, OneOf}
 use Rattle.prism_reading.proofs.OverlapLemmas.{tails}
 use Rattle.prism_reading.proofs.DefiniteLemmas.{IsDefinite, HasText, Starts, Leads, anything_leads, starts_lead, closed, narrowed, terminal_definite, terminal_has, terminal_starts, IsNameKind, is_name, name_definite, name_has, name_starts, quoted_definite, quoted_has}
 use Rattle.prism_reading.proofs.BothLemmas.{both_definite, both_has, both_starts}
-use Rattle.prism_reading.proofs.MadeLemmas.{IsMade, is_made, made_definite, made_has, made_starts}
+use Rattle.prism_reading.proofs.MadeLemmas.{is_made, made_definite, made_has, made_starts}
 use Rattle.prism_reading.proofs.OneOfLemmas.{one_of_definite, one_of_starts, first_has, starts_apart}
-use Rattle.prism_reading.proofs.EachLemmas.{Repeats, each_definite, each_has, each_then_starts}
 use Rattle.prism_reading.proofs.SeparatedLemmas.{Divides, separated_definite, separated_has, separated_starts}
-use Rattle.prism_model.specs.Parts.{BeginsNot, BeginsNoName, EndsBranches, IsExprUntil, IsSortWord, word, sort_of, IsSorted, IsOptionalEnded, IsRange, IsActionEnded, IsRenaming, IsBody, EndsRewards, IsPassed}
+use Rattle.prism_model.specs.Parts.{BeginsNot, EndsBranches, IsExprUntil, IsSortWord, word, sort_of, IsSorted, IsOptionalEnded, IsRange, IsActionEnded, IsRenaming, IsPassed}
 use Rattle.prism_model.proofs.ExpressionLemmas.{until_definite, until_has}
-use Rattle.prism_model.proofs.LineLemmas.{optional_made, const_made, formula_made, label_made, variable_made, global_made, assign_made, update_made, weighted_made, command_made, pair_made, module_made, rewards_made}
+use Rattle.prism_model.proofs.LineLemmas.{optional_made, const_made, formula_made, label_made, variable_made, global_made, assign_made, update_made, weighted_made, pair_made, rewards_made}
 use Rattle.prism_model.proofs.RewardsLemmas.{ends_definite, ends_has}
 
 -- a closed rule and then another

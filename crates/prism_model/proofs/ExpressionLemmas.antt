@@ -1,17 +1,16 @@
 -- Expressions with the token that ends them.
-use Rattle.std.proofs.Common.{◌≡◌, ℕ, ◌≤◌, List, [], ◌∷◌, ◌++◌, length, true, false, Some, refl, sym, ◌∙◌, append_assoc}
+use Rattle.std.proofs.Common.{◌≡◌, List, [], ◌∷◌, ◌++◌, false, Some, refl, sym, ◌∙◌, append_assoc}
 use Rattle.prism_syntax.specs.declared.labels.Labels.TheVariants.{Refused}
 use Rattle.prism_syntax.specs.declared.tokens.Kind.{Kind}
 use Rattle.prism_syntax.specs.declared.tokens.Kind.TheVariants as k
 use Rattle.prism_syntax.specs.declared.expressions.Expr.{Expr}
-use Rattle.prism_syntax.specs.declared.precedence.Precedence.{Precedence}
 use Rattle.prism_syntax.specs.declared.precedence.Precedence.TheVariants as rule
 use Rattle.prism_syntax.specs.Precedence.{atom}
 use Rattle.prism_syntax.specs.Expressions.{Derives, IsExpr}
 use Rattle.prism_syntax.specs.Expressions.Derives.{chain, bare, plain, leaf, paren}
 use Rattle.prism_syntax.specs.Expressions.ChainTail.{end}
 use Rattle.prism_reading.specs.Reading.{Anything}
-use Rattle.prism_reading.specs.Sequences.{Ended, ended}
+use Rattle.prism_reading.specs.Sequences.{ended}
 use Rattle.prism_reading.proofs.DefiniteLemmas.{IsDefinite, HasText, closed}
 use Rattle.prism_reading.proofs.OverlapLemmas.{tails}
 use Rattle.prism_expression.specs.Follow.{goes_on}

@@ -1,6 +1,5 @@
 -- The items of a model: each begins with a word of its own.
 use Rattle.std.proofs.Common.{◌≡◌, ℕ, ◌≤◌, ◌<◌, List, [], ◌∷◌, ◌++◌, length, refl, sym, ◌∙◌, ap, subst, arith}
-use Rattle.std.proofs.lemmas.List.{length-map}
 use Rattle.prism_syntax.specs.declared.tokens.Kind.{Kind}
 use Rattle.prism_syntax.specs.declared.tokens.Kind.TheVariants as k
 use Rattle.prism_syntax.specs.declared.tokens.Token.{Token}
@@ -15,7 +14,7 @@ use Rattle.prism_syntax.specs.Models.{IsConst, IsGlobal, IsFormula, IsModule, Is
 use Rattle.prism_syntax.specs.Models as model
 use Rattle.prism_reading.specs.Reach.{IsPrefix, IsReach}
 use Rattle.prism_reading.specs.Reading.{Anything, Parses, Fails}
-use Rattle.prism_reading.proofs.DefiniteLemmas.{IsDefinite, HasText, Starts, nothing_begins, closed, found, misses, reach_within}
+use Rattle.prism_reading.proofs.DefiniteLemmas.{IsDefinite, HasText, Starts, closed, found, misses, reach_within}
 use Rattle.prism_reading.proofs.EachLemmas.{Repeats}
 use Rattle.prism_model.specs.Parts.{IsPassed, IsEnd}
 use Rattle.prism_model.proofs.DefiniteLineLemmas.{const_definite, const_starts, const_has, global_definite, global_starts, formula_definite, formula_starts, label_definite, label_starts, rewards_definite, rewards_starts}

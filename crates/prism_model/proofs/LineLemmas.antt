@@ -17,7 +17,7 @@ use Rattle.prism_syntax.specs.Models as model
 use Rattle.prism_reading.specs.Sequences.{IsTerminal, terminal, IsName, name, IsQuoted, quoted, Both, both, OneOf, Made, Ended, ended}
 use Rattle.prism_reading.specs.Sequences as sequence
 use Rattle.prism_reading.proofs.MadeLemmas.{Parted, IsMade}
-use Rattle.prism_model.specs.Parts.{IsExprUntil, IsSorted, IsSortWord, word, sort_of, sorted, IsOptionalEnded, IsRange, range, AreBranchesEnded, IsActionEnded, action, IsRenaming, renaming, IsBody, body, EndsRewards, ends, IsPassed}
+use Rattle.prism_model.specs.Parts.{IsExprUntil, IsSorted, word, sort_of, IsOptionalEnded, IsRange, AreBranchesEnded, IsActionEnded, action, IsRenaming, IsBody, EndsRewards, ends, IsPassed}
 
 -- a text, its end and what follows are the text and what begins with the end
 regroup : (a : List Kind) (t : Kind) (b : List Kind) → (a ++ (t ∷ [])) ++ b ≡ a ++ (t ∷ b)

@@ -1,5 +1,5 @@
 -- Whole models: one of two words, and then items.
-use Rattle.std.proofs.Common.{◌≡◌, ℕ, zero, suc, ◌==◌, Bool, true, false, ◌≤◌, ◌<◌, List, [], ◌∷◌, ◌++◌, length, refl, sym, ◌∙◌, ap, subst, arith, append-nil, append_assoc, length-append}
+use Rattle.std.proofs.Common.{◌≡◌, ℕ, ◌==◌, Bool, true, false, ◌≤◌, ◌<◌, List, [], ◌∷◌, ◌++◌, length, refl, sym, ◌∙◌, ap, subst, arith, append-nil}
 use Rattle.std.proofs.lemmas.List.{length-map}
 use Rattle.std.proofs.lemmas.Bool.Decides.{nat_tests}
 use Rattle.prism_syntax.specs.declared.tokens.Kind.{Kind}
@@ -13,10 +13,8 @@ use Rattle.prism_syntax.specs.Models.{IsItem, IsModel, Each, with_item, model_of
 use Rattle.prism_syntax.specs.Models as model
 use Rattle.prism_reading.specs.Reach.{IsPrefix, IsReach}
 use Rattle.prism_reading.specs.Reading.{Anything, Parses, Fails}
-use Rattle.prism_reading.specs.Sequences.{IsTerminal, terminal, Both, both}
-use Rattle.prism_reading.specs.Sequences as sequence
 use Rattle.prism_reading.proofs.OverlapLemmas.{tails}
-use Rattle.prism_reading.proofs.DefiniteLemmas.{IsDefinite, HasText, nothing_begins, reach_within}
+use Rattle.prism_reading.proofs.DefiniteLemmas.{reach_within}
 use Rattle.prism_reading.proofs.EachLemmas.{Onward, onward_begun, each_onward, onward_ended, each_definite, next_missing}
 use Rattle.prism_model.specs.Parts.{IsEnd, with_last, AreItems}
 use Rattle.prism_model.proofs.ItemLemmas.{items_repeat}

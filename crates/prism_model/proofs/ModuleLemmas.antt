@@ -1,19 +1,19 @@
 -- Commands, and modules.
-use Rattle.std.proofs.Common.{◌≡◌, ◌⊎◌, inl, inr, ⊎_elim, ℕ, List, [], ◌∷◌, ◌++◌, refl, sym, ◌∙◌, ap, subst}
+use Rattle.std.proofs.Common.{◌≡◌, ◌⊎◌, inl, inr, ℕ, List, ◌∷◌, refl, sym, ◌∙◌, ap, subst}
 use Rattle.prism_syntax.specs.declared.tokens.Kind.{Kind}
 use Rattle.prism_syntax.specs.declared.tokens.Kind.TheVariants as k
 use Rattle.prism_syntax.specs.Models.{IsVariable, IsCommand, IsModule, Each}
 use Rattle.prism_reading.specs.Reading.{Anything}
-use Rattle.prism_reading.specs.Sequences.{IsTerminal, IsName, Both, OneOf}
+use Rattle.prism_reading.specs.Sequences.{IsTerminal, Both, OneOf}
 use Rattle.prism_reading.proofs.DefiniteLemmas.{IsDefinite, HasText, Starts, Leads, starts_lead, terminal_definite, terminal_has, terminal_starts, IsNameKind, is_name, name_definite, name_has}
 use Rattle.prism_reading.proofs.BothLemmas.{both_definite, both_has, both_starts}
 use Rattle.prism_reading.proofs.MadeLemmas.{is_made, made_definite, made_has, made_starts}
 use Rattle.prism_reading.proofs.OneOfLemmas.{one_of_definite, first_has, starts_apart}
 use Rattle.prism_reading.proofs.EachLemmas.{Repeats, each_definite, each_has, each_then_starts}
-use Rattle.prism_model.specs.Parts.{BeginsNot, BeginsNoName, IsExprUntil, AreBranchesEnded, IsActionEnded, IsRenaming, IsBody}
+use Rattle.prism_model.specs.Parts.{BeginsNot, BeginsNoName, IsExprUntil, AreBranchesEnded, IsRenaming, IsBody}
 use Rattle.prism_model.proofs.ExpressionLemmas.{until_definite, until_has}
 use Rattle.prism_model.proofs.LineLemmas.{command_made, module_made}
-use Rattle.prism_model.proofs.DefiniteLineLemmas.{both_closed, after_token, action_definite, action_has, variable_definite, variable_starts, renaming_definite, renaming_has}
+use Rattle.prism_model.proofs.DefiniteLineLemmas.{both_closed, after_token, action_definite, variable_definite, variable_starts, renaming_definite, renaming_has}
 use Rattle.prism_model.proofs.BranchLemmas.{branches_definite, branches_has}
 
 -- the guard and the branches of a command

@@ -1,12 +1,11 @@
 -- Tokens up to the first `endrewards`.
-use Rattle.std.proofs.Common.{◌≡◌, ℕ, ◌≤◌, ◌<◌, List, [], ◌∷◌, ◌++◌, length, All, refl, sym, ◌∙◌, ap, subst, arith, append-nil, append_assoc}
+use Rattle.std.proofs.Common.{◌≡◌, ◌<◌, List, [], ◌∷◌, ◌++◌, length, All, refl, sym, ◌∙◌, ap, subst, arith, append-nil, append_assoc}
 use Rattle.std.proofs.lemmas.List.{map-append}
 use Rattle.std.proofs.lemmas.List.Elements.{All-nil, All-cons, All-head, All-tail, All-append}
 use Rattle.prism_syntax.specs.declared.tokens.Kind.{Kind}
 use Rattle.prism_syntax.specs.declared.tokens.Kind.TheVariants as k
 use Rattle.prism_syntax.specs.declared.tokens.Token.{Token}
 use Rattle.prism_syntax.specs.Tokens.{kinds}
-use Rattle.prism_reading.specs.Reach.{IsPrefix, IsReach}
 use Rattle.prism_reading.specs.Reading.{Anything, Parses, Fails}
 use Rattle.prism_reading.proofs.DefiniteLemmas.{IsDefinite, HasText, closed, found}
 use Rattle.prism_reading.proofs.OverlapLemmas.{tails}

@@ -6,7 +6,7 @@ use Rattle.prism_syntax.specs.declared.tokens.Kind.{Kind}
 use Rattle.prism_syntax.specs.declared.tokens.Token.{Token}
 use Rattle.prism_syntax.specs.Tokens.{kinds}
 use Rattle.prism_reading.specs.Reading.{Anything, Parses, Fails}
-use Rattle.prism_reading.specs.Sequences.{IsTerminal, terminal, IsName, IsQuoted, Both}
+use Rattle.prism_reading.specs.Sequences.{IsTerminal, terminal, IsName, Both}
 use Rattle.prism_reading.proofs.DefiniteLemmas.{IsDefinite, HasText, Starts, anything_leads, kinds_cut, misses, terminal_definite, terminal_has, terminal_starts, name_definite}
 use Rattle.prism_reading.proofs.BothLemmas.{first_missing, second_missing}
 use Rattle.prism_model.specs.Parts.{BeginsNot}

@@ -1,6 +1,5 @@
 -- Updates: `true`, which no `&` may follow, or assignments.
-use Rattle.std.proofs.Common.{◌≡◌, ℕ, List, [], length, refl, sym, ◌∙◌}
-use Rattle.prism_syntax.specs.declared.tokens.Kind.{Kind}
+use Rattle.std.proofs.Common.{ℕ, List, [], length}
 use Rattle.prism_syntax.specs.declared.tokens.Kind.TheVariants as k
 use Rattle.prism_syntax.specs.declared.tokens.Token.{Token}
 use Rattle.prism_syntax.specs.Tokens.{kinds}

@@ -1,9 +1,7 @@
 -- Each answer of a function is put together from those of the functions that it calls.
-use Rattle.std.proofs.Common.{◌≡◌, ◌∷◌, List, Some, None, refl, sym, ap, ◌∙◌, subst, arith}
-use Rattle.prism_syntax.specs.declared.tokens.Kind.{Kind}
+use Rattle.std.proofs.Common.{sym, ◌∙◌, subst}
 use Rattle.prism_syntax.specs.declared.tokens.Kind.TheVariants as k
 use Rattle.prism_syntax.specs.declared.precedence.Precedence.TheVariants as rule
-use Rattle.prism_syntax.specs.Tokens.{kinds}
 use Rattle.prism_syntax.specs.Expressions.{Derives}
 use Rattle.prism_reading.specs.Reading.{Anything, Parses, Fails}
 use Rattle.prism_reading.specs.Sequences.{Ended}

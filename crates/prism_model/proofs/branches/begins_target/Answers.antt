@@ -1,6 +1,6 @@
 use Rattle.std.proofs.Common.{◌∷◌, ◌∙◌, refl, ap}
 use Rattle.prism_syntax.specs.declared.tokens.Kind.TheVariants as k
-use Rattle.prism_model.proofs.TokenLemmas.{first_of, starts_with}
+use Rattle.prism_model.proofs.TokenLemmas.{starts_with}
 use Rattle.prism_model.proofs.BranchLemmas.{no_name_target, target_seen}
 use Rattle.prism_model.proofs.StepLemmas.{begin_with}
 use Rattle.prism_model.proofs.branches.begins_target.Goals as goal

@@ -1,5 +1,5 @@
 use Rattle.std.proofs.Common.{ap}
-use Rattle.prism_model.proofs.TokenLemmas.{first_of, starts_with}
+use Rattle.prism_model.proofs.TokenLemmas.{first_of}
 use Rattle.prism_model.specs.Parts.{sort_of}
 use Rattle.prism_model.proofs.SortLemmas.{no_sort_at_end, sort_found, no_sort, no_word}
 use Rattle.prism_model.proofs.constants.sort.Goals as goal

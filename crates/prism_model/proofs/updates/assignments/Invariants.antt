@@ -1,7 +1,7 @@
 use Rattle.std.proofs.Common.{length}
 use Rattle.prism_syntax.specs.declared.tokens.Kind.TheVariants as k
 use Rattle.prism_syntax.specs.Models.{Separated, IsAssign}
-use Rattle.prism_model.specs.Parts.{BeginsNot, EndsBranches}
+use Rattle.prism_model.specs.Parts.{BeginsNot}
 use Rattle.prism_reading.proofs.EachLemmas.{Onward}
 use Rattle.prism_model.proofs.updates.assignments.Given as goal
 

@@ -1,5 +1,4 @@
-use Rattle.prism_model.proofs.TokenLemmas.{first_of, starts_with}
-use Rattle.prism_syntax.specs.Tokens.{kinds}
+use Rattle.prism_model.proofs.TokenLemmas.{starts_with}
 use Rattle.prism_model.proofs.variables.begins_name.Goals as goal
 
 pub returns-in-Name : goal.returns-in-Name

@@ -1,6 +1,6 @@
 use Rattle.std.proofs.Common.{length}
 use Rattle.prism_syntax.specs.Models.{Each, IsVariable}
-use Rattle.prism_model.specs.Parts.{BeginsNot, BeginsNoName}
+use Rattle.prism_model.specs.Parts.{BeginsNoName}
 use Rattle.prism_reading.proofs.EachLemmas.{Onward}
 use Rattle.prism_model.proofs.variables.variables.Given as goal
 
