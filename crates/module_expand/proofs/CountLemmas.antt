@@ -1,8 +1,8 @@
 -- How often names are declared as what.
-use Rattle.std.proofs.Common.{◌≡◌, ℕ, ◌+◌, ◌<◌, ◌≤◌, List, [], ◌∷◌, ◌++◌, Option, Bool, true, false, ◌&&◌, length, get_or, take, min, count_by, unwrap_or, is_some, bytes_eq, cond, arith, refl, sym, ap, ◌∙◌, nat_lt}
+use Rattle.std.proofs.Common.{◌≡◌, ℕ, ◌+◌, ◌<◌, List, [], ◌∷◌, ◌++◌, Option, Bool, true, false, ◌&&◌, length, get_or, take, min, count_by, unwrap_or, is_some, bytes_eq, cond, arith, refl, sym, ap, ◌∙◌, nat_lt}
 use Rattle.std.specs.Prelude.{None, Some}
 use mathlib.Core.Logic.{inl, inr}
-use Rattle.std.specs.Option.{option_or, option_copied}
+use Rattle.std.specs.Option.{option_or}
 use Rattle.std.specs.List.{filter_map, cons_option, flat_map}
 use Rattle.std.proofs.lemmas.Bool.{cases_Bool}
 use Rattle.std.proofs.lemmas.Grind.{common_steps, flat_map-append}
@@ -14,7 +14,7 @@ use Rattle.module_expand.specs.declared.repeated.Times.{Times}
 use Rattle.module_expand.specs.Renamed.{right_of}
 use Rattle.module_expand.specs.Duplicates.{Declaration, values, same_kind, is_same, is_repeated}
 use Rattle.module_expand.specs.Times.{times, never, more_times, Counts, AddsTimes, Adds, AreCounted, is_counted_twice}
-use Rattle.module_expand.proofs.FirstLemmas.{same_bytes, itself, one_more, some_or_none}
+use Rattle.module_expand.proofs.FirstLemmas.{same_bytes, itself, one_more}
 
 more_as : (j k : Kind) (more : ℕ) (t : Times) → min 2 (times k (more_times j more t))
     ≡ min 2 (times k t + cond (same_kind j k) more 0)

@@ -1,6 +1,6 @@
 -- The first name that was counted more than once.
 use Rattle.std.proofs.Common.{◌≡◌, ℕ, ◌+◌, ◌<◌, ◌≤◌, List, [], ◌∷◌, ◌++◌, Option, Bool, true, false, length, get_or, take, drop, find, count_by, is_some, map, nat_lt, unwrap_or, bytes_eq, cond, arith, refl, sym, ap, ◌∙◌, subst, Bor}
-use Rattle.std.specs.Prelude.{None, Some, ◌⊎◌}
+use Rattle.std.specs.Prelude.{None, Some}
 use mathlib.Core.Logic.{inl, inr}
 use Rattle.std.specs.Option.{option_or, option_map, option_copied, option_to_list}
 use Rattle.std.specs.List.{filter_map, cons_option, flat_map, All}

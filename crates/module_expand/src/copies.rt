@@ -4,6 +4,7 @@ ghost use Rattle.indexmap.specs.IndexMap.{get};
 ghost use Rattle.prism_syntax.specs.Replaced.{replaced};
 ghost use Rattle.module_expand.specs.Renamed.{renamed, copied_variable, copied_set, copied_branch, copied_command, copied_module, variables_of, commands_of};
 
+use crate::pairs::both;
 use crate::renamings::NewNames;
 use indexmap::IndexMap;
 use prism_syntax::{Branch, Command, Expr, Module, Variable};
@@ -35,6 +36,21 @@ pub fn copy_optional(
     }
 }
 
+/// The ends of a range with their names replaced, where there is one.
+fn copy_range(
+    alloc: Global,
+    range: &Option<(Expr, Expr)>,
+    trees: &IndexMap<Text, Expr>,
+) -> Result<Option<(Expr, Expr)>, AllocError>
+    ensures { IfOk result (λ copy. copy
+        ≡ option_map (λ r. (replaced (get bytes_eq trees.now) r.0, replaced (get bytes_eq trees.now) r.1)) range.now) }
+{
+    match range {
+        Some((low, high)) => Ok(Some(both(low.replace(alloc, trees), high.replace(alloc, trees))?)),
+        None => Ok(None),
+    }
+}
+
 /// A variable with its names replaced.
 pub fn copy_variable(
     alloc: Global,
@@ -45,15 +61,12 @@ pub fn copy_variable(
     ensures { IfOk result (λ copy. copy
         ≡ copied_variable (λ n. option_copied (get bytes_eq names.now n)) (get bytes_eq trees.now) variable.now) }
 {
-    let range = match &variable.range {
-        Some((low, high)) => Some((low.replace(alloc, trees)?, high.replace(alloc, trees)?)),
-        None => None,
-    };
-    Ok(Variable {
-        name: copy_name(alloc, &variable.name, names)?,
-        range,
-        init: copy_optional(alloc, &variable.init, trees)?,
-    })
+    let name = copy_name(alloc, &variable.name, names)?;
+    let (range, init) = both(
+        copy_range(alloc, &variable.range, trees),
+        copy_optional(alloc, &variable.init, trees),
+    )?;
+    Ok(Variable { name, range, init })
 }
 
 /// Variables with their names replaced.
@@ -83,10 +96,7 @@ fn copy_set(
     ensures { IfOk result (λ copy. copy
         ≡ copied_set (λ n. option_copied (get bytes_eq names.now n)) (get bytes_eq trees.now) set.now) }
 {
-    Ok((
-        copy_name(alloc, &set.0, names)?,
-        set.1.replace(alloc, trees)?,
-    ))
+    both(copy_name(alloc, &set.0, names), set.1.replace(alloc, trees))
 }
 
 /// A branch with its names replaced.
@@ -99,14 +109,28 @@ fn copy_branch(
     ensures { IfOk result (λ copy. copy
         ≡ copied_branch (λ n. option_copied (get bytes_eq names.now n)) (get bytes_eq trees.now) branch.now) }
 {
-    let mut sets = Items::new(alloc);
-    for set in branch.sets.as_slice() {
-        sets.push(copy_set(alloc, set, names, trees)?)?;
+    let (weight, sets) = both(
+        copy_optional(alloc, &branch.weight, trees),
+        copy_sets(alloc, branch.sets.as_slice(), names, trees),
+    )?;
+    Ok(Branch { weight, sets })
+}
+
+/// Assignments with their names replaced.
+fn copy_sets(
+    alloc: Global,
+    sets: &[(Text, Expr)],
+    names: &NewNames,
+    trees: &IndexMap<Text, Expr>,
+) -> Result<Items<(Text, Expr)>, AllocError>
+    ensures { IfOk result (λ copies. copies
+        ≡ map (copied_set (λ n. option_copied (get bytes_eq names.now n)) (get bytes_eq trees.now)) sets.now) }
+{
+    let mut copies = Items::new(alloc);
+    for set in sets {
+        copies.push(copy_set(alloc, set, names, trees)?)?;
     }
-    Ok(Branch {
-        weight: copy_optional(alloc, &branch.weight, trees)?,
-        sets,
-    })
+    Ok(copies)
 }
 
 /// An action with its new name, where there is one.
@@ -134,15 +158,33 @@ fn copy_command(
     ensures { IfOk result (λ copy. copy
         ≡ copied_command (λ n. option_copied (get bytes_eq names.now n)) (get bytes_eq trees.now) command.now) }
 {
-    let mut branches = Items::new(alloc);
-    for branch in command.branches.as_slice() {
-        branches.push(copy_branch(alloc, branch, names, trees)?)?;
-    }
+    let branches = copy_branches(alloc, command.branches.as_slice(), names, trees)?;
+    let (action, guard) = both(
+        copy_action(alloc, &command.action, names),
+        command.guard.replace(alloc, trees),
+    )?;
     Ok(Command {
-        action: copy_action(alloc, &command.action, names)?,
-        guard: command.guard.replace(alloc, trees)?,
+        action,
+        guard,
         branches,
     })
+}
+
+/// Branches with their names replaced.
+fn copy_branches(
+    alloc: Global,
+    branches: &[Branch],
+    names: &NewNames,
+    trees: &IndexMap<Text, Expr>,
+) -> Result<Items<Branch>, AllocError>
+    ensures { IfOk result (λ copies. copies
+        ≡ map (copied_branch (λ n. option_copied (get bytes_eq names.now n)) (get bytes_eq trees.now)) branches.now) }
+{
+    let mut copies = Items::new(alloc);
+    for branch in branches {
+        copies.push(copy_branch(alloc, branch, names, trees)?)?;
+    }
+    Ok(copies)
 }
 
 /// Commands with their names replaced.
@@ -174,16 +216,31 @@ pub fn copy_module(
         ≡ copied_module (λ n. option_copied (get bytes_eq names.now n)) (get bytes_eq trees.now) title.now from.now) }
 {
     let name = title.copy(alloc)?;
+    let (vars, commands) = copy_parts(alloc, from, names, trees)?;
+    Ok(Module::Written {
+        name,
+        vars,
+        commands,
+    })
+}
+
+/// The variables and the commands of a module that is written out, their names replaced.
+fn copy_parts(
+    alloc: Global,
+    from: &Module,
+    names: &NewNames,
+    trees: &IndexMap<Text, Expr>,
+) -> Result<(Items<Variable>, Items<Command>), AllocError>
+    ensures vars { IfOk result (λ copies. copies.0 ≡ map (copied_variable (λ n. option_copied (get bytes_eq names.now n))
+        (get bytes_eq trees.now)) (variables_of from.now)) }
+    ensures commands { IfOk result (λ copies. copies.1 ≡ map (copied_command (λ n. option_copied (get bytes_eq names.now n))
+        (get bytes_eq trees.now)) (commands_of from.now)) }
+{
     match from {
-        Module::Written { vars, commands, .. } => Ok(Module::Written {
-            name,
-            vars: copy_variables(alloc, vars.as_slice(), names, trees)?,
-            commands: copy_commands(alloc, commands.as_slice(), names, trees)?,
-        }),
-        Module::Renamed { .. } => Ok(Module::Written {
-            name,
-            vars: Items::new(alloc),
-            commands: Items::new(alloc),
-        }),
+        Module::Written { vars, commands, .. } => both(
+            copy_variables(alloc, vars.as_slice(), names, trees),
+            copy_commands(alloc, commands.as_slice(), names, trees),
+        ),
+        Module::Renamed { .. } => Ok((Items::new(alloc), Items::new(alloc))),
     }
 }

@@ -1,6 +1,8 @@
-ghost use Rattle.std.specs.Prelude.{◌≡◌, IfOk, List, ℕ, bytes_eq, map};
+ghost use Rattle.std.specs.Prelude.{◌≡◌, IfOk, OnOk, List, ℕ, Some, cond, bytes_eq, map};
 ghost use Rattle.indexmap.specs.IndexMap.{get};
+ghost use Rattle.prism_syntax.specs.declared.expressions.Expr.TheVariants as e;
 ghost use Rattle.prism_syntax.specs.declared.models.Named.{Named as Formula};
+ghost use Rattle.prism_syntax.specs.Replaced.{replaced};
 ghost use Rattle.prism_names.specs.First.{AreDistinct};
 ghost use Rattle.name_graph.specs.Graph.{IsOrder};
 ghost use Rattle.module_expand.specs.Expanded.{AreExpanded, stands_for};
@@ -8,6 +10,7 @@ ghost use Rattle.module_expand.specs.Refusals.{uses_of};
 ghost use Rattle.module_expand.specs.Sizes.{AreSizes};
 
 use crate::sizes::{Sizes, measure};
+use crate::tables::put;
 use indexmap::IndexMap;
 use prism_syntax::{Expr, Named};
 use smc_num::Text;
@@ -26,7 +29,7 @@ pub fn formula_sizes(alloc: Global, formulas: &[Named], order: &[u32]) -> Result
     for place in order {
         let formula = &formulas[*place as usize];
         let size = measure(&formula.body, &sizes).in_parens();
-        sizes.insert(formula.name.copy(alloc)?, size)?;
+        put(alloc, &mut sizes, &formula.name, size)?;
     }
     Ok(sizes)
 }
@@ -45,8 +48,28 @@ pub fn formula_trees(
     let mut trees = IndexMap::new(alloc);
     for place in order {
         let formula = &formulas[*place as usize];
-        let tree = Expr::Paren(Boxed::new(alloc, formula.body.replace(alloc, &trees)?)?);
-        trees.insert(formula.name.copy(alloc)?, tree)?;
+        put_tree(alloc, &mut trees, formula)?;
     }
     Ok(trees)
+}
+
+/// Puts a formula's body, its names replaced, in parentheses under the formula's name.
+fn put_tree(
+    alloc: Global,
+    trees: &mut IndexMap<Text, Expr>,
+    formula: &Named,
+) -> Result<(), AllocError>
+    ensures { OnOk result ((n : List ℕ) → get bytes_eq trees.new n ≡ cond (bytes_eq formula.now.name n)
+        (Some (e.Paren (replaced (get bytes_eq trees.old) formula.now.body))) (get bytes_eq trees.old n)) }
+{
+    let tree = in_parens(alloc, &formula.body, trees)?;
+    put(alloc, trees, &formula.name, tree)
+}
+
+/// A formula's body with its names replaced, in parentheses.
+fn in_parens(alloc: Global, body: &Expr, trees: &IndexMap<Text, Expr>) -> Result<Expr, AllocError>
+    ensures { IfOk result (λ tree. tree ≡ e.Paren (replaced (get bytes_eq trees.now) body.now)) }
+{
+    let expanded = body.replace(alloc, trees)?;
+    Ok(Expr::Paren(Boxed::new(alloc, expanded)?))
 }

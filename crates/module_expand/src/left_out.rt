@@ -1,12 +1,13 @@
 ghost use Rattle.std.specs.Prelude.{◌≡◌, IfOk, List, ℕ, bytes_eq, position};
-ghost use Rattle.std.specs.Option.{option_map};
+ghost use Rattle.std.specs.Option.{option_map, option_copied};
 ghost use Rattle.indexmap.specs.IndexMap.{get};
 ghost use Rattle.module_expand.specs.Flat.{is_written_as};
+ghost use Rattle.module_expand.specs.Renamed.{right_of};
 ghost use Rattle.module_expand.specs.Refusals.{LooksForLeftOut};
 ghost use Rattle.module_expand.specs.LeftOut.{IsFirstOf, IsFirstOfAll, IsFirstVariable, IsEarlier};
 
 use crate::fault::ExpandFault;
-use crate::renamings::new_names;
+use crate::renamings::{NewNames, new_names};
 use crate::sources::{Sources, variables};
 use prism_syntax::{Module, Variable};
 use smc_num::Text;
@@ -110,14 +111,27 @@ fn first_without_pair<'a>(
         (option_map (λ v. (v.module, v.variable, v.name.now)) found)) }
 {
     let names = new_names(alloc, pairs)?;
+    Ok(first_unnamed(&names, place, variables))
+}
+
+/// The first of the variables of the module at this place that has no new name.
+fn first_unnamed<'a>(
+    names: &NewNames,
+    place: usize,
+    variables: &'a [Variable],
+) -> Option<LeftOut<'a>>
+    ensures { (pairs : List (List ℕ × List ℕ))
+        → ((name : List ℕ) → option_copied (get bytes_eq names.now name) ≡ right_of pairs name)
+        → IsFirstVariable variables.now pairs place (option_map (λ v. (v.module, v.variable, v.name.now)) result) }
+{
     for (variable, declared) in variables.iter().enumerate() {
         if names.get(&declared.name).is_none() {
-            return Ok(Some(LeftOut {
+            return Some(LeftOut {
                 module: place,
                 variable,
                 name: &declared.name,
-            }));
+            });
         }
     }
-    Ok(None)
+    None
 }

@@ -11,6 +11,7 @@ mod formulas;
 mod laws;
 mod left_out;
 mod modules;
+mod pairs;
 mod properties;
 mod renamings;
 mod repeated;

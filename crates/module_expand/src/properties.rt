@@ -1,7 +1,10 @@
-ghost use Rattle.std.specs.Prelude.{◌≡◌, ◌⊎◌, ◌∷◌, [], IfOk, IfErr, List, ℕ, Option, bytes_eq};
+ghost use Rattle.std.specs.Prelude.{◌≡◌, ◌⊎◌, ◌∷◌, [], IfOk, IfErr, OnOk, List, ℕ, Option, Some, None, cond, bytes_eq};
+ghost use Rattle.std.specs.Option.{option_or};
 ghost use Rattle.indexmap.specs.IndexMap.{get};
 ghost use Rattle.prism_syntax.specs.WellFormed.{IsFormedProperty, IsFormedFlat};
 ghost use Rattle.prism_syntax.specs.declared.expressions.Expr.{Expr as Tree};
+ghost use Rattle.prism_syntax.specs.declared.expressions.Expr.TheVariants as e;
+ghost use Rattle.prism_syntax.specs.Replaced.{replaced};
 ghost use Rattle.module_expand.specs.Expanded.{stands_for};
 ghost use Rattle.module_expand.specs.Listed.{AreTooLarge};
 ghost use Rattle.module_expand.specs.Properties.{flat_property, flat_path, property_exprs, path_exprs, time_expr};
@@ -9,6 +12,7 @@ ghost use Rattle.module_expand.specs.Refusals.{IsOutOfMemory};
 ghost use Rattle.module_expand.specs.Sizes.{IsSize, AreSizes};
 
 use crate::fault::ExpandFault;
+use crate::pairs::both;
 use crate::sizes::{Size, Sizes, measure, own_size};
 use crate::tables::put_first;
 use indexmap::IndexMap;
@@ -31,12 +35,46 @@ pub fn in_property(
     ensures formed { IfOk result (λ p. IsFormedFlat flat.now → IsFormedProperty property.now → IsFormedProperty p) }
 {
     let formulas = flat.formulas.as_slice();
-    let sizes = body_sizes(alloc, formulas).map_err(ExpandFault::OutOfMemory)?;
-    if measure_property(property, &sizes).is_too_large() {
-        return Err(ExpandFault::TooLarge);
+    match size_in_property(alloc, property, formulas) {
+        Ok(size) => {
+            if size.is_too_large() {
+                Err(ExpandFault::TooLarge)
+            } else {
+                property_with(alloc, property, formulas)
+            }
+        }
+        Err(error) => Err(ExpandFault::OutOfMemory(error)),
     }
-    let trees = body_trees(alloc, formulas).map_err(ExpandFault::OutOfMemory)?;
-    Ok(replace_in_property(alloc, property, &trees).map_err(ExpandFault::OutOfMemory)?)
+}
+
+/// The size that a property has once these formulas are replaced in it. No tree is built.
+fn size_in_property(
+    alloc: Global,
+    property: &Property,
+    formulas: &[Named],
+) -> Result<Size, AllocError>
+    ensures { IfOk result (λ size. IsSize size (property_exprs (flat_property (stands_for formulas.now) property.now))) }
+{
+    let sizes = body_sizes(alloc, formulas)?;
+    Ok(measure_property(property, &sizes))
+}
+
+/// A property in which these formulas are replaced, where there is memory.
+fn property_with(
+    alloc: Global,
+    property: &Property,
+    formulas: &[Named],
+) -> Result<Property, ExpandFault>
+    ensures replaced { IfOk result (λ p. p ≡ flat_property (stands_for formulas.now) property.now) }
+    ensures memory { IfErr result IsOutOfMemory }
+{
+    match body_trees(alloc, formulas) {
+        Ok(trees) => match replace_in_property(alloc, property, &trees) {
+            Ok(replaced) => Ok(replaced),
+            Err(error) => Err(ExpandFault::OutOfMemory(error)),
+        },
+        Err(error) => Err(ExpandFault::OutOfMemory(error)),
+    }
 }
 
 /// The sizes of the trees that expanded formulas' names stand for.
@@ -57,10 +95,22 @@ fn body_trees(alloc: Global, formulas: &[Named]) -> Result<IndexMap<Text, Expr>,
 {
     let mut trees = IndexMap::new(alloc);
     for formula in formulas {
-        let tree = Expr::Paren(Boxed::new(alloc, formula.body.copy(alloc)?)?);
-        put_first(alloc, &mut trees, &formula.name, tree)?;
+        put_body(alloc, &mut trees, formula)?;
     }
     Ok(trees)
+}
+
+/// Puts the tree that an expanded formula's name stands for under its name, unless there is one already.
+fn put_body(
+    alloc: Global,
+    trees: &mut IndexMap<Text, Expr>,
+    formula: &Named,
+) -> Result<(), AllocError>
+    ensures { OnOk result ((n : List ℕ) → get bytes_eq trees.new n ≡ option_or (get bytes_eq trees.old n)
+        (cond (bytes_eq formula.now.name n) (Some (e.Paren formula.now.body)) None)) }
+{
+    let body = Boxed::new(alloc, formula.body.copy(alloc)?)?;
+    put_first(alloc, trees, &formula.name, Expr::Paren(body))
 }
 
 /// The size that the expressions of a property have once the names of its state formulas are replaced.
@@ -103,10 +153,14 @@ fn replace_in_property(
 ) -> Result<Property, AllocError>
     ensures { IfOk result (λ p. p ≡ flat_property (get bytes_eq trees.now) property.now) }
 {
+    let (bound, path) = both(
+        property.bound.copy(alloc),
+        replace_in_path(alloc, &property.path, trees),
+    )?;
     Ok(Property {
         cmp: property.cmp,
-        bound: property.bound.copy(alloc)?,
-        path: replace_in_path(alloc, &property.path, trees)?,
+        bound,
+        path,
     })
 }
 
@@ -120,20 +174,47 @@ fn replace_in_path(
 {
     match path {
         PathText::Next(state) => Ok(PathText::Next(state.replace(alloc, trees)?)),
-        PathText::Finally(time, state) => Ok(PathText::Finally(
-            copy_time(alloc, time)?,
-            state.replace(alloc, trees)?,
-        )),
-        PathText::Globally(time, state) => Ok(PathText::Globally(
-            copy_time(alloc, time)?,
-            state.replace(alloc, trees)?,
-        )),
-        PathText::Until(first, time, second) => Ok(PathText::Until(
-            first.replace(alloc, trees)?,
-            copy_time(alloc, time)?,
-            second.replace(alloc, trees)?,
-        )),
+        PathText::Finally(time, state) => {
+            let (time, state) = replace_timed(alloc, time, state, trees)?;
+            Ok(PathText::Finally(time, state))
+        }
+        PathText::Globally(time, state) => {
+            let (time, state) = replace_timed(alloc, time, state, trees)?;
+            Ok(PathText::Globally(time, state))
+        }
+        PathText::Until(first, time, second) => {
+            replace_in_until(alloc, first, time, second, trees)
+        }
     }
+}
+
+/// An until formula in whose state formulas names are replaced.
+fn replace_in_until(
+    alloc: Global,
+    first: &Expr,
+    time: &Time,
+    second: &Expr,
+    trees: &IndexMap<Text, Expr>,
+) -> Result<PathText, AllocError>
+    ensures { IfOk result (λ p. p ≡ flat_path (get bytes_eq trees.now) (PathText.Until first.now time.now second.now)) }
+{
+    let (first, (time, second)) = both(
+        first.replace(alloc, trees),
+        replace_timed(alloc, time, second, trees),
+    )?;
+    Ok(PathText::Until(first, time, second))
+}
+
+/// A time once more, and a state formula in which names are replaced.
+fn replace_timed(
+    alloc: Global,
+    time: &Time,
+    state: &Expr,
+    trees: &IndexMap<Text, Expr>,
+) -> Result<(Time, Expr), AllocError>
+    ensures { IfOk result (λ parts. parts ≡ (time.now, replaced (get bytes_eq trees.now) state.now)) }
+{
+    both(copy_time(alloc, time), state.replace(alloc, trees))
 }
 
 /// The same time once more.

@@ -1,6 +1,6 @@
-ghost use Rattle.std.specs.Prelude.{◌≡◌, ◌∷◌, ◌++◌, ◌<◌, [], IfOk, OnOk, IsFalse, List, ℕ, None, bytes_eq, cond, count_by, find, is_some, map, unwrap_or, position};
+ghost use Rattle.std.specs.Prelude.{◌≡◌, ◌∷◌, ◌++◌, ◌<◌, [], IfOk, OnOk, IsFalse, List, ℕ, Some, None, bytes_eq, cond, count_by, find, is_some, map, unwrap_or, position};
 ghost use Rattle.std.specs.List.{flat_map, filter_map};
-ghost use Rattle.std.specs.Option.{option_map, option_copied, option_to_list};
+ghost use Rattle.std.specs.Option.{option_map, option_copied, option_or, option_to_list};
 ghost use Rattle.indexmap.specs.IndexMap.{get};
 ghost use Rattle.module_expand.specs.Flat.{is_written_as};
 ghost use Rattle.module_expand.specs.Renamed.{right_of};
@@ -90,8 +90,19 @@ fn first_repeated(
         (flat_map stated declared.now))) }
 {
     let counts = count_all(alloc, before, declared)?;
+    first_counted_twice(alloc, &counts, declared)
+}
+
+/// The name of the first of these declarations that was counted more than once.
+fn first_counted_twice(
+    alloc: Global,
+    counts: &IndexMap<Text, Times>,
+    declared: &[Group],
+) -> Result<Option<Text>, AllocError>
+    ensures { IfOk result (λ found. found ≡ first_twice (get bytes_eq counts.now) (flat_map stated declared.now)) }
+{
     for group in declared {
-        if let Some(name) = repeated_in(alloc, &counts, group)? {
+        if let Some(name) = repeated_in(alloc, counts, group)? {
             return Ok(Some(name.copy(alloc)?));
         }
     }
@@ -109,14 +120,39 @@ fn repeated_in<'a>(
 {
     match group {
         Group::One { kind, name } => Ok(repeated_name(counts, *kind, name)),
-        Group::Copies { source, pairs } => {
-            let names = new_names(alloc, pairs)?;
-            if has_repeated(counts, source, &names, pairs) {
-                Ok(first_new_name(counts, source.variables(), &names))
-            } else {
-                Ok(None)
-            }
-        }
+        Group::Copies { source, pairs } => repeated_copy(alloc, counts, source, pairs),
+    }
+}
+
+/// The first new name that pairs give to a variable of a source and that was counted more than once.
+fn repeated_copy<'a>(
+    alloc: Global,
+    counts: &IndexMap<Text, Times>,
+    source: &VariableNames,
+    pairs: &'a [(Text, Text)],
+) -> Result<Option<&'a Text>, AllocError>
+    ensures { IfOk result (λ found. option_copied found ≡ first_twice (get bytes_eq counts.now)
+        (values (filter_map (right_of pairs.now) source.now))) }
+{
+    let names = new_names(alloc, pairs)?;
+    Ok(repeated_new_name(counts, source, &names, pairs))
+}
+
+/// The same name, found by a table of the new names.
+fn repeated_new_name<'a>(
+    counts: &IndexMap<Text, Times>,
+    source: &VariableNames,
+    names: &NewNames<'a>,
+    pairs: &[(Text, Text)],
+) -> Option<&'a Text>
+    requires { (name : List ℕ) → option_copied (get bytes_eq names.now name) ≡ right_of pairs.now name }
+    ensures { option_copied result ≡ first_twice (get bytes_eq counts.now)
+        (values (filter_map (right_of pairs.now) source.now)) }
+{
+    if has_repeated(counts, source, names, pairs) {
+        first_new_name(counts, source.variables(), names)
+    } else {
+        None
     }
 }
 
@@ -268,11 +304,29 @@ fn count_new_names(
 {
     let mut names: NewNames = IndexMap::new(alloc);
     for (left, right) in pairs {
-        let more = times_unless_named(source, &names, left);
-        count(alloc, counts, Kind::Value, right, more)?;
-        put_first(alloc, &mut names, left, right)?;
+        count_new_name(alloc, counts, source, &mut names, left, right)?;
     }
     Ok(())
+}
+
+/// Counts a right name as often as its left name stands among the variables of a source, where that has no new name yet.
+fn count_new_name<'a>(
+    alloc: Global,
+    counts: &mut IndexMap<Text, Times>,
+    source: &VariableNames,
+    names: &mut NewNames<'a>,
+    left: &Text,
+    right: &'a Text,
+) -> Result<(), AllocError>
+    ensures named { OnOk result ((n : List ℕ) → option_copied (get bytes_eq names.new n)
+        ≡ option_or (option_copied (get bytes_eq names.old n)) (cond (bytes_eq left.now n) (Some right.entry.now) None)) }
+    ensures counted { OnOk result (AddsTimes (get bytes_eq counts.old) (get bytes_eq counts.new)
+        (Kind.Value, right.entry.now) (cond (is_some (get bytes_eq names.old left.now)) 0
+        (count_by (λ other. bytes_eq other left.now) source.now))) }
+{
+    let more = times_unless_named(source, names, left);
+    count(alloc, counts, Kind::Value, right, more)?;
+    put_first(alloc, names, left, right)
 }
 
 /// How many of a source's variables have a name, or 0 where the name has a new one already.

@@ -4,6 +4,7 @@ ghost use Rattle.module_expand.specs.Renamed.{variable_names};
 ghost use Rattle.module_expand.specs.Times.{AreCounted};
 
 use crate::sources::variables;
+use crate::tables::put;
 use indexmap::IndexMap;
 use prism_syntax::{Module, Variable};
 use smc_num::Text;
@@ -56,7 +57,7 @@ fn count_names(alloc: Global, variables: &[Variable]) -> Result<IndexMap<Text, u
     let mut times: IndexMap<Text, usize> = IndexMap::new(alloc);
     for variable in variables {
         let before = times.get(&variable.name).copied().unwrap_or(0);
-        times.insert(variable.name.copy(alloc)?, before + 1)?;
+        put(alloc, &mut times, &variable.name, before + 1)?;
     }
     Ok(times)
 }

@@ -1,5 +1,4 @@
-use Rattle.std.proofs.Common.{bytes_eq, ap, ◌∙◌, cond, get_or}
-use Rattle.std.specs.Prelude.{Some}
+use Rattle.std.proofs.Common.{bytes_eq, get_or}
 use Rattle.indexmap.specs.IndexMap.{get}
 use Rattle.module_expand.proofs.OrderLemmas.{at_place, at_number, order_within}
 use Rattle.module_expand.proofs.FormulaLemmas.{sizes_more, sizes_all}
@@ -12,13 +11,12 @@ loop-place-preserved c = λ trees is.
     let order = c.args.order.now in
     let old = get bytes_eq c.loop-place.sizes in
     sizes_more formulas trees order k (get_or order k 0) c.index-formulas-place.result old
-    (get bytes_eq c.insert.new.self) c.measure.result c.in_parens-size.result
+    (get bytes_eq c.put.new.table) c.measure.result c.in_parens-size.result
     is c.requires.distinct c.requires.order (at_number order k c.loop-place-test.true)
     (at_place formulas (get_or order k 0) c.index-formulas-place.result
     (order_within formulas order k c.requires.order c.loop-place-test.true) c.index-formulas-place.is)
     c.measure.ensures c.in_parens-size.ensures.nodes c.in_parens-size.ensures.depth
-    (λ n. (c.in_ok-insert.ensures.updates).0 n ∙ ap (λ z. cond (bytes_eq z n) (Some c.in_parens-size.result) (old n))
-    c.in_ok-copy.ensures)
+    c.in_ok-put.ensures
     (c.loop-place.invariant trees is)
 
 pub returns : goal.returns

@@ -16,3 +16,19 @@ returns-in-Until c = λ by h.
     (replaced by c.in-Until.first ∷ []) (time_expr c.in-Until.time ∷ (replaced by c.in-Until.second ∷ []))
     c.plus-in-Until-2.ensures.nodes c.plus-in-Until-2.ensures.depth (c.measure-in-Until.ensures by h) later in
     subst (λ path. IsSize c.plus-in-Until-2.result (path_exprs (flat_path by path))) (sym c.in-Until.is) all
+
+-- the time, and then the state formula
+pub returns-in-Finally : goal.returns-in-Finally
+returns-in-Finally c = λ by h.
+    let all = size-append c.measure_time.result c.measure-in-Finally.result c.plus.result
+    (time_expr c.in-Finally.time ∷ []) (replaced by c.in-Finally.state ∷ [])
+    c.plus.ensures.nodes c.plus.ensures.depth c.measure_time.ensures (c.measure-in-Finally.ensures by h) in
+    subst (λ path. IsSize c.plus.result (path_exprs (flat_path by path))) (sym c.in-Finally.is) all
+
+pub returns-in-Globally : goal.returns-in-Globally
+returns-in-Globally c = λ by h.
+    let all = size-append c.measure_time-in-Globally.result c.measure-in-Globally.result c.plus-in-Globally.result
+    (time_expr c.in-Globally.time ∷ []) (replaced by c.in-Globally.state ∷ [])
+    c.plus-in-Globally.ensures.nodes c.plus-in-Globally.ensures.depth c.measure_time-in-Globally.ensures
+    (c.measure-in-Globally.ensures by h) in
+    subst (λ path. IsSize c.plus-in-Globally.result (path_exprs (flat_path by path))) (sym c.in-Globally.is) all

@@ -1,4 +1,4 @@
-use Rattle.std.proofs.Common.{◌≡◌, List, ℕ, take, bytes_eq}
+use Rattle.std.proofs.Common.{◌≡◌, take, bytes_eq}
 use Rattle.std.specs.Prelude.{None}
 use Rattle.std.specs.Option.{option_copied, option_to_list}
 use Rattle.std.specs.List.{flat_map}

@@ -1,5 +1,5 @@
 use Rattle.std.proofs.Common.{bytes_eq, ap, subst, sym, ◌∙◌}
-use Rattle.std.specs.Option.{option_copied, option_to_list}
+use Rattle.std.specs.Option.{option_to_list}
 use Rattle.indexmap.specs.IndexMap.{get}
 use Rattle.std.proofs.lemmas.List.{take_all}
 use Rattle.std.specs.List.{All}
