@@ -1,19 +1,15 @@
 -- Names without those that stood before, and the actions of a list of names.
-use Rattle.std.proofs.Common.{◌≡◌, ◌≢◌, ℕ, zero, suc, ◌+◌, ◌<◌, List, [], ◌∷◌, ◌++◌, Option, Bool, true, false, not, All, length, map, get_or, take, bytes_eq, cond, refl, sym, ap, ◌∙◌, subst, unwrap_or, append_assoc, append-nil, arith, add-one, option_copied, Bor}
+use Rattle.std.proofs.Common.{◌≡◌, ℕ, ◌+◌, ◌<◌, List, [], ◌∷◌, ◌++◌, Option, Bool, true, false, length, map, get_or, take, bytes_eq, refl, sym, ap, ◌∙◌, append-nil, arith}
 use Rattle.std.specs.Option.{option_to_list}
 use Rattle.std.proofs.lemmas.Grind.{common_steps}
-use Rattle.std.specs.Prelude.{None, Some, ◌||◌, filter_map, position, slice_get, if◌then◌else◌}
+use Rattle.std.specs.Prelude.{None, Some, ◌||◌, filter_map, if◌then◌else◌}
 use mathlib.Core.Logic.{inl, inr}
-use Rattle.std.specs.List.{cons_option, list_any, enumerate_from, AllPairs, position_or_len}
+use Rattle.std.specs.List.{cons_option, list_any, enumerate_from}
 use Rattle.std.proofs.lemmas.Bool.{cases_Bool}
-use Rattle.std.proofs.Math.Seq.{take-suc}
 use Rattle.std.proofs.lemmas.List.{map-append}
-use Rattle.std.proofs.lemmas.List.Elements.{All-nil, All-cons, All-weaker, filter_map-append}
-use Rattle.std.proofs.lemmas.List.Kept.{AllPairs-cons}
-use Rattle.std.proofs.lemmas.Option.{slice_get-get_or}
-use Rattle.indexmap.specs.IndexSet.{insert_key}
+use Rattle.std.proofs.lemmas.List.Elements.{filter_map-append}
 use Rattle.prism_names.specs.First.{Name, is_among}
-use Rattle.typed_trees.proofs.TableLemmas.{same_bytes, own_bytes, bytes_sym}
+use Rattle.typed_trees.proofs.TableLemmas.{same_bytes, bytes_sym}
 use Rattle.chain_model.specs.declared.chain.Action.{Action}
 use Rattle.chain_model.specs.declared.chain.Act.{Act}
 use Rattle.typecheck.specs.Declarations.{first_appearances, with_name}

@@ -1,10 +1,9 @@
 -- A property over a chain: what is found by tables of its variables and labels is what its definition says.
-use Rattle.std.proofs.Common.{◌≡◌, ◌≤◌, List, length, Option, Result, All, refl, sym, ap, ◌∙◌, subst}
-use Rattle.std.specs.Prelude.{None, Some, Ok, Err, ◌⊎◌, IfOk, IfErr, IsErrAnd, MatchResult}
+use Rattle.std.proofs.Common.{◌≡◌, ◌≤◌, List, length, Option, Result, All, sym, ap, ◌∙◌, subst}
+use Rattle.std.specs.Prelude.{None, Ok, Err, ◌⊎◌, IfOk, IfErr, IsErrAnd, MatchResult}
 use mathlib.Core.Logic.{inl, inr}
 use Rattle.std.specs.Option.{option_or}
 use Rattle.std.specs.Result.{result_unwrap_or}
-use Rattle.chain_model.specs.declared.values.Sort.{Sort}
 use Rattle.chain_model.specs.declared.values.Sort.TheVariants as sort
 use Rattle.chain_model.specs.declared.expressions.Typed.{Typed}
 use Rattle.chain_model.specs.declared.expressions.Labels.TheVariants.{Allowed, Refused}

@@ -1,12 +1,12 @@
 -- The parts that are made of a flat model are its chain, where nothing is refused.
-use Rattle.std.proofs.Common.{Bor, ◌≡◌, ℕ, zero, suc, ◌+◌, ◌<◌, ◌≤◌, List, [], ◌∷◌, ◌++◌, Option, Bool, true, false, All, length, map, get_or, bytes_eq, refl, sym, ap, ◌∙◌, subst, arith, option_map, nat_lt}
-use Rattle.std.specs.Prelude.{None, Some, ◌||◌, ◌==◌, IfSome, filter_map, position, slice_index_or, if◌then◌else◌}
+use Rattle.std.proofs.Common.{Bor, ◌≡◌, ℕ, zero, suc, ◌+◌, ◌<◌, ◌≤◌, List, [], ◌∷◌, Option, true, false, All, length, map, get_or, bytes_eq, refl, sym, ap, ◌∙◌, subst, arith, option_map, nat_lt}
+use Rattle.std.specs.Prelude.{None, Some, ◌||◌, ◌==◌, IfSome, filter_map, position, if◌then◌else◌}
 use Rattle.std.specs.List.{AllZip, AllPairs, enumerate_from, list_any, cons_option}
 use Rattle.std.specs.Option.{option_map_or, option_or}
 use Rattle.indexmap.specs.IndexMap.{get}
 use Rattle.std.proofs.lemmas.Bool.{eq-eqb}
 use Rattle.std.proofs.lemmas.List.{length-map}
-use Rattle.std.proofs.lemmas.List.Elements.{All-nil, All-append, All-map, All-weaker}
+use Rattle.std.proofs.lemmas.List.Elements.{All-nil, All-append, All-map}
 use Rattle.chain_model.specs.declared.values.Sort.{Sort}
 use Rattle.chain_model.specs.declared.values.Sort.TheVariants as sort
 use Rattle.chain_model.specs.declared.expressions.Labels.TheVariants.{Refused}
@@ -25,7 +25,7 @@ use Rattle.prism_syntax.specs.declared.models.Named.{Named}
 use Rattle.prism_syntax.specs.declared.models.Variable.{Variable}
 use Rattle.prism_syntax.specs.declared.models.Module.{Module}
 use Rattle.prism_syntax.specs.declared.models.FlatText.{FlatText}
-use Rattle.prism_names.specs.First.{Name, is_among, first_some}
+use Rattle.prism_names.specs.First.{Name}
 use Rattle.const_eval.specs.declared.consts.Constant.{Constant}
 use Rattle.typed_trees.specs.Leaves.{shown, constant_leaf, variable_leaf, leaf_of}
 use Rattle.typed_trees.specs.Trees.{tree_of, no_label}
@@ -38,9 +38,9 @@ use Rattle.typecheck.specs.declared.fault.Item.TheVariants as item
 use Rattle.typecheck.specs.Declarations.{module_name, variables_of, commands_of, declared_variables, variable_sorts, declared_commands, declared_actions, first_appearances}
 use Rattle.typecheck.specs.ModelRefusals.{sort_by}
 use Rattle.typecheck.specs.Items.{is_tree_of, command_fits, unfit_variable, unfit_command, unfit_label, unfit_in_module, unfit_in_modules}
-use Rattle.typecheck.specs.Ranges.{variable_fault, if_outside, first_variable_fault}
-use Rattle.typecheck.specs.Writes.{owner_in, foreign_write, global_write, double_write, is_too_large}
-use Rattle.typecheck.specs.Chains.{IsVariableOf, IsCommandOf, IsLabelOf, IsTreeOf, IsChainOf}
+use Rattle.typecheck.specs.Ranges.{variable_fault, if_outside}
+use Rattle.typecheck.specs.Writes.{owner_in, foreign_write, global_write, double_write}
+use Rattle.typecheck.specs.Chains.{IsVariableOf, IsCommandOf, IsLabelOf, IsChainOf}
 use Rattle.typecheck.specs.Sorts.{IsScope}
 use Rattle.typecheck.specs.Limits.{IsWithin}
 use Rattle.typecheck.specs.Parts.{all_made, made_variable, made_command, made_label, made_actions, made_parts, taking, has_action, action_number}

@@ -2,7 +2,7 @@
 use Rattle.std.proofs.Common.{◌≡◌, ℕ, ◌+◌, ◌<◌, ◌≤◌, List, [], ◌∷◌, ◌++◌, append_assoc, cond, count_by, find, Option, Bool, true, false, not, All, length, map, get_or, bytes_eq, refl, sym, ap, ◌∙◌, subst, unwrap_or, arith, option_map, is_some}
 use Rattle.std.specs.Prelude.{None, Some, ◌==◌, ◌&&◌, IfSome, MatchOption, position, slice_get, nat_lt, if◌then◌else◌}
 use mathlib.Core.Logic.{inl, inr}
-use Rattle.std.specs.List.{AllZip, AllPairs, list_all}
+use Rattle.std.specs.List.{AllPairs, list_all}
 use Rattle.std.specs.Option.{option_map_or, option_and_then, IsSomeAnd}
 use Rattle.std.proofs.lemmas.Bool.{eqb-true, eq-eqb, cases_Bool}
 use Rattle.std.proofs.lemmas.Grind.{common_steps}
@@ -19,10 +19,9 @@ use Rattle.chain_model.specs.declared.expressions.Typed.{Typed}
 use Rattle.chain_model.specs.declared.chain.Var.{Var}
 use Rattle.chain_model.specs.declared.chain.Arm.{Arm}
 use Rattle.chain_model.specs.declared.chain.Act.{Act}
-use Rattle.chain_model.specs.Chain.{is_unlabelled, may_assign, IsAssignment, IsBranch, IsCommand}
-use Rattle.chain_model.specs.Sorts.{◌>>=◌, is_number, is_of_sort}
-use Rattle.chain_model.specs.Typing.{HasSort, IsNumber, sort_of}
-use Rattle.chain_model.specs.Values.{Valued}
+use Rattle.chain_model.specs.Chain.{may_assign, IsAssignment, IsBranch, IsCommand}
+use Rattle.chain_model.specs.Sorts.{◌>>=◌, is_number}
+use Rattle.chain_model.specs.Typing.{IsNumber, sort_of}
 use Rattle.prism_syntax.specs.declared.expressions.Expr.{Expr}
 use Rattle.prism_syntax.specs.declared.commands.Branch.{Branch}
 use Rattle.prism_syntax.specs.declared.commands.Command.{Command}
@@ -30,7 +29,7 @@ use Rattle.prism_syntax.specs.declared.models.Variable.{Variable}
 use Rattle.prism_syntax.specs.declared.models.FlatText.{FlatText}
 use Rattle.prism_names.specs.First.{Name, AreDistinct, first_some, first_repeated}
 use Rattle.const_eval.specs.declared.consts.Constant.{Constant}
-use Rattle.typed_trees.specs.Leaves.{literal, shown, variable, variable_leaf, leaf_of}
+use Rattle.typed_trees.specs.Leaves.{literal, shown, variable_leaf, leaf_of}
 use Rattle.typed_trees.specs.Trees.{tree_of, no_label}
 use Rattle.typed_trees.specs.Numbers.{constant_value}
 use Rattle.typed_trees.proofs.TypedLemmas.{literal-IsTyped}

@@ -1,5 +1,5 @@
 -- Where nothing is told of a list, nothing is told of each of it.
-use Rattle.std.proofs.Common.{◌≡◌, ℕ, suc, ◌+◌, arith, List, [], ◌∷◌, Option, Bool, true, false, not, All, map, cond, refl, sym, ap, ◌∙◌, subst}
+use Rattle.std.proofs.Common.{◌≡◌, ℕ, suc, ◌+◌, arith, List, [], ◌∷◌, Option, Bool, true, false, All, map, refl, sym, ap, ◌∙◌}
 use Rattle.std.specs.Prelude.{None, Some, ◌&&◌, ◌||◌, option_map, if◌then◌else◌}
 use mathlib.Core.Logic.{inl, inr}
 use Rattle.std.specs.Option.{option_or}

@@ -10,6 +10,7 @@ pub mod ListingLemmas
 pub mod OwnerLemmas
 pub mod NumberLemmas
 pub mod MakingLemmas
+pub mod PairLemmas
 pub mod ModelLemmas
 pub mod ActionLemmas
 pub mod PartLemmas

@@ -1,5 +1,5 @@
 -- The variable of a name: its place, its sort, its owner and its number.
-use Rattle.std.proofs.Common.{◌≡◌, ℕ, zero, suc, ◌+◌, ◌<◌, ◌≤◌, List, [], ◌∷◌, Option, Bool, true, false, not, length, map, cond, get_or, bytes_eq, refl, sym, ap, ◌∙◌, subst, unwrap_or, arith, option_map, nat_lt}
+use Rattle.std.proofs.Common.{◌≡◌, ℕ, suc, ◌+◌, List, [], ◌∷◌, Option, Bool, true, false, not, length, map, cond, bytes_eq, refl, sym, ap, ◌∙◌, unwrap_or, arith, nat_lt}
 use Rattle.std.specs.Prelude.{None, Some, position, slice_get}
 use mathlib.Core.Logic.{inl, inr}
 use Rattle.std.specs.List.{enumerate_from, position_or_len}

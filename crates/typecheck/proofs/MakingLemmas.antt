@@ -1,9 +1,11 @@
 -- What is made of each of a list: of those so far, of one more, and of all.
-use Rattle.std.proofs.Common.{◌≡◌, ℕ, zero, suc, ◌<◌, Bool, true, false, List, [], ◌∷◌, ◌++◌, Option, All, length, map, refl, sym, ap, ◌∙◌, subst, unwrap_or, append_assoc, arith}
+use Rattle.std.proofs.Common.{◌≡◌, ℕ, suc, ◌+◌, ◌<◌, ◌≤◌, Bool, true, false, List, [], ◌∷◌, ◌++◌, Option, All, length, get_or, drop, map, add-one, refl, sym, ap, ◌∙◌, subst, unwrap_or, append_assoc, arith}
 use Rattle.std.specs.Prelude.{None, Some, ◌||◌}
 use mathlib.Core.Logic.{inl, inr}
-use Rattle.std.specs.List.{AllZip, AllPairs, slice_index_or, list_any}
+use Rattle.std.specs.List.{AllZip, AllPairs, list_any}
+use Rattle.std.proofs.Math.Seq.{drop-cons}
 use Rattle.std.proofs.lemmas.Bool.{cases_Bool}
+use Rattle.std.proofs.lemmas.List.{append-nil, drop_all}
 use Rattle.std.proofs.lemmas.List.Elements.{All-nil, All-cons, All-head, All-tail}
 use Rattle.std.proofs.lemmas.List.Kept.{AllPairs-cons}
 use Rattle.chain_model.specs.Sorts.{◌>>=◌}
@@ -22,6 +24,31 @@ made_with-more {X} made one part parts is =
     subst (λ (p : Option X). made_with (made ++ one ∷ []) parts ≡ made_with made (p ∷ parts)) (sym is)
     (elim (all_made parts) as (λ o. (o >>= λ rest. Some ((made ++ one ∷ []) ++ rest)) ≡ ((o >>= λ rest. Some (one ∷ rest)) >>= λ rest. Some (made ++ rest)))
     [ None ↦ refl | Some rest ↦ ap Some (append_assoc made (one ∷ []) rest) ])
+
+-- what is left of a list is one more and the others
+left_over : {X : Type 0} (xs : List X) (i : ℕ) (x : X) → i < length xs → x ≡ get_or xs i x → drop i xs ≡ x ∷ drop (i + 1) xs
+left_over xs i x lt is = drop-cons xs i x lt ∙ ((λ k. sym is k ∷ drop (suc i) xs) ∙ ap (λ j. x ∷ drop j xs) (sym (add-one i)))
+
+-- parts that are made of a list one by one
+module _ {X Y : Type 0} (parts : List X → List (Option Y)) (part : X → Option Y) (cons : (x : X) (xs : List X) → parts (x ∷ xs) ≡ part x ∷ parts xs)
+    (xs : List X) (i : ℕ) (made : List Y) (all : Option (List Y)) (before : made_with made (parts (drop i xs)) ≡ all) where
+  opened : (x : X) → i < length xs → x ≡ get_or xs i x → made_with made (part x ∷ parts (drop (i + 1) xs)) ≡ all
+  opened x lt is = ap (made_with made) (sym (ap parts (left_over xs i x lt is) ∙ cons x (drop (i + 1) xs))) ∙ before
+
+  -- one more is made
+  pub one_made : (x : X) (new : List Y) (one : Y) → i < length xs → x ≡ get_or xs i x → Some one ≡ part x → new ≡ made ++ one ∷ []
+      → made_with new (parts (drop (i + 1) xs)) ≡ all
+  one_made x new one lt is at pushed =
+      ap (λ ys. made_with ys (parts (drop (i + 1) xs))) pushed
+      ∙ (made_with-more made one (part x) (parts (drop (i + 1) xs)) (sym at) ∙ opened x lt is)
+
+  -- where one is not made, not all are
+  pub one_missing : (x : X) → i < length xs → x ≡ get_or xs i x → None ≡ part x → None ≡ all
+  one_missing x lt is at = ap (λ (o : Option Y). made_with made (o ∷ parts (drop (i + 1) xs))) at ∙ opened x lt is
+
+  -- at the end of the list all are made
+  pub all_there : parts [] ≡ [] → length xs ≤ i → Some made ≡ all
+  all_there nil le = ap Some (sym (append-nil made)) ∙ (sym (ap (made_with made) (ap parts (drop_all i xs le) ∙ nil)) ∙ before)
 
 -- two that are there are one
 pub same-Some : {X : Type 0} (x y : X) → Some x ≡ Some y → x ≡ y

@@ -1,6 +1,6 @@
 -- The refusals of a flat model, as passes find them, and what holds where there is none.
-use Rattle.std.proofs.Common.{◌≡◌, ℕ, List, [], ◌∷◌, Bor, length, nat_lt, Option, Bool, true, false, refl, sym, ap, ◌∙◌, subst, map, bytes_eq, option_map}
-use Rattle.std.specs.Prelude.{None, Some, ◌⊎◌, ◌||◌, MatchOption}
+use Rattle.std.proofs.Common.{◌≡◌, ℕ, List, [], ◌∷◌, Bor, length, nat_lt, Option, Bool, true, false, refl, sym, ap, ◌∙◌, subst, map, bytes_eq}
+use Rattle.std.specs.Prelude.{None, Some, ◌⊎◌, ◌||◌}
 use Rattle.std.specs.List.{list_any}
 use Rattle.std.proofs.lemmas.List.{length-map}
 use Rattle.chain_model.specs.Limits.{most_modules, most_variables, most_commands, most_branches}

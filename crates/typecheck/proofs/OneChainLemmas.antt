@@ -1,5 +1,5 @@
 -- A flat model has one chain at most.
-use Rattle.std.proofs.Common.{◌≡◌, ℕ, zero, suc, ◌+◌, ◌<◌, List, [], ◌∷◌, Option, Bool, true, false, All, length, map, get_or, refl, sym, ap, ◌∙◌, subst, unwrap_or, arith}
+use Rattle.std.proofs.Common.{◌≡◌, ℕ, suc, ◌<◌, List, [], ◌∷◌, Option, Bool, true, false, All, length, map, get_or, refl, sym, ap, ◌∙◌, subst, arith}
 use Rattle.std.specs.Prelude.{None, Some, Ok, ℤ, pos, MatchOption, ◌==◌, ◌||◌}
 use mathlib.Core.Logic.{inl, inr}
 use mathlib.Core.HLevel.{is_prop→PathP}
@@ -11,7 +11,6 @@ use Rattle.std.proofs.lemmas.Bool.{cases_Bool, eqb-true, eq-eqb}
 use Rattle.std.proofs.lemmas.Bool.Decides.{nat_tests}
 use Rattle.std.proofs.lemmas.List.Elements.{All-head, All-tail}
 use Rattle.chain_model.specs.declared.values.Sort.TheVariants as sort
-use Rattle.chain_model.specs.declared.values.Value.{Value}
 use Rattle.chain_model.specs.declared.values.Value.TheVariants as value
 use Rattle.chain_model.specs.declared.expressions.Typed.{Typed}
 use Rattle.chain_model.specs.declared.chain.Var.{Var}
@@ -19,7 +18,7 @@ use Rattle.chain_model.specs.declared.chain.Action.{Action}
 use Rattle.chain_model.specs.declared.chain.Arm.{Arm}
 use Rattle.chain_model.specs.declared.chain.Act.{Act}
 use Rattle.chain_model.specs.declared.chain.Chain.{Chain}
-use Rattle.chain_model.specs.Chain.{IsAction, IsChain, is_part}
+use Rattle.chain_model.specs.Chain.{IsAction, IsChain}
 use Rattle.chain_model.specs.Step.{stored}
 use Rattle.chain_model.specs.Values.{Valued}
 use Rattle.prism_syntax.specs.declared.expressions.Expr.{Expr}
@@ -31,8 +30,7 @@ use Rattle.prism_syntax.specs.declared.models.FlatText.{FlatText}
 use Rattle.prism_names.specs.First.{Name}
 use Rattle.const_eval.specs.declared.consts.Constant.{Constant}
 use Rattle.typed_trees.specs.Leaves.{literal}
-use Rattle.typed_trees.specs.Numbers.{constant_value}
-use Rattle.typecheck.specs.Declarations.{declared_variables, declared_commands, declared_actions}
+use Rattle.typecheck.specs.Declarations.{declared_variables, declared_commands}
 use Rattle.typecheck.specs.Chains as chains
 use Rattle.typecheck.specs.Chains.{HasNumber, IsVariableOf, IsNumberOf, IsTreeOf, IsBranchOf, IsCommandOf, IsLabelOf, IsChainOf}
 use Rattle.typecheck.proofs.MakingLemmas.{same-Some, pairs-head, pairs-tail}

@@ -1,19 +1,11 @@
 -- A flat model has one chain at most and one refusal at most, and a property one path formula.
-use Rattle.std.proofs.Common.{◌≡◌, ℕ, zero, suc, ◌+◌, ◌<◌, List, [], ◌∷◌, Option, Bool, true, false, length, map, get_or, refl, sym, ap, ◌∙◌, subst, unwrap_or, arith}
-use Rattle.std.specs.Prelude.{None, Some, Ok, ℤ, pos, MatchOption, ◌==◌, ◌||◌, slice_index_or}
-use mathlib.Core.Logic.{inl, inr}
-use Rattle.std.specs.List.{AllZip, AllPairs, list_any}
-use Rattle.std.specs.Result.{result_unwrap_or}
-use Rattle.std.proofs.lemmas.Bool.{cases_Bool, cases_eq, eq-eqb}
-use Rattle.std.proofs.lemmas.Bool.Decides.{nat_tests}
-use Rattle.std.proofs.lemmas.List.Elements.{All-head, All-tail}
-use Rattle.chain_model.specs.declared.values.Value.{Value}
+use Rattle.std.proofs.Common.{◌≡◌, ℕ, List, Option, sym, ap, ◌∙◌}
+use Rattle.std.specs.Prelude.{pos}
 use Rattle.chain_model.specs.declared.expressions.Typed.{Typed}
 use Rattle.chain_model.specs.declared.job.Path.{Path}
 use Rattle.chain_model.specs.declared.job.PathKind.{PathKind}
 use Rattle.chain_model.specs.declared.job.PathKind.TheVariants as kind
 use Rattle.chain_model.specs.declared.job.Claim.{Claim}
-use Rattle.chain_model.specs.Step.{stored}
 use Rattle.chain_model.specs.Values.{Valued}
 use Rattle.prism_syntax.specs.declared.expressions.Expr.{Expr}
 use Rattle.prism_syntax.specs.declared.properties.Time.{Time}
@@ -32,8 +24,8 @@ use Rattle.typecheck.specs.Numbers.{number_fault}
 use Rattle.typecheck.specs.Refusals.{Tells}
 use Rattle.typecheck.specs.Ranges.{first_variable_fault, first_empty, first_outside_range}
 use Rattle.typecheck.specs.Writes.{foreign_write, global_write, double_write}
-use Rattle.typecheck.specs.Paths.{HasHorizon, HasKind, IsTypedAs, last_state}
-use Rattle.typecheck.specs.ModelRefusals.{TellsNumbers, TellsWrites, IsTooLarge, IsRefused}
+use Rattle.typecheck.specs.Paths.{HasHorizon, HasKind, IsTypedAs}
+use Rattle.typecheck.specs.ModelRefusals.{IsTooLarge, IsRefused}
 use Rattle.typecheck.proofs.MakingLemmas.{same-Some}
 use Rattle.typecheck.proofs.RefusalLemmas.{tells-one}
 use Rattle.typecheck.proofs.ModelLemmas as model

@@ -1,7 +1,6 @@
 -- A property's path formula and its refusals go by what names stand for alone.
 use Rattle.std.proofs.Common.{◌≡◌, ◌≤◌, List, Option, Result, refl, sym, subst, lit≤}
-use Rattle.std.specs.Prelude.{None, Some, Ok, Err, ◌⊎◌, IfOk, IfErr}
-use mathlib.Core.Logic.{inl, inr}
+use Rattle.std.specs.Prelude.{None, Some, Ok, Err, IfOk, IfErr}
 use Rattle.std.specs.Option.{option_or}
 use Rattle.chain_model.specs.declared.expressions.Typed.{Typed}
 use Rattle.chain_model.specs.declared.job.Path.{Path}
@@ -19,7 +18,6 @@ use Rattle.prism_syntax.specs.declared.properties.Property.{Property}
 use Rattle.prism_names.specs.First.{Name}
 use Rattle.typed_trees.specs.Trees.{tree_of, AreWellTyped}
 use Rattle.typecheck.specs.declared.fault.TypeFault.{TypeFault}
-use Rattle.typecheck.specs.Refusals.{IsOutOfMemory}
 use Rattle.typecheck.specs.Paths.{IsTypedAs, HasKind}
 use Rattle.typecheck.specs.PathRefusals.{IsRefusedAs}
 use Rattle.typecheck.proofs.PathLemmas.{formulas-good}

@@ -1,10 +1,9 @@
 -- The state formulas of a path are well typed, and the labels that they name.
-use Rattle.std.proofs.Common.{◌≡◌, ℕ, zero, suc, ◌<◌, ◌≤◌, List, [], ◌∷◌, ◌++◌, length, Option, Bool, true, false, All, bytes_eq, refl, sym, ap, ◌∙◌, subst, unwrap_or, arith, get_or}
+use Rattle.std.proofs.Common.{◌≡◌, zero, suc, ◌<◌, List, ◌++◌, length, Option, true, All, bytes_eq, refl, sym, ap, ◌∙◌, subst, unwrap_or, arith, get_or}
 use Rattle.std.specs.Prelude.{None, Some, if◌then◌else◌}
 use Rattle.chain_model.specs.declared.values.Sort.{Sort}
 use Rattle.chain_model.specs.declared.values.Sort.TheVariants as sort
 use Rattle.chain_model.specs.declared.values.Value.TheVariants as value
-use Rattle.chain_model.specs.declared.expressions.Labels.{Labels}
 use Rattle.chain_model.specs.declared.expressions.Labels.TheVariants.{Allowed, Refused}
 use Rattle.chain_model.specs.declared.expressions.Typed.{Typed}
 use Rattle.chain_model.specs.declared.chain.Var.{Var}
@@ -14,13 +13,12 @@ use Rattle.prism_syntax.specs.declared.expressions.Expr.{Expr}
 use Rattle.prism_syntax.specs.declared.properties.PathText.{PathText}
 use Rattle.prism_syntax.specs.declared.properties.PathText.TheVariants as text
 use Rattle.prism_names.specs.First.{Name}
-use Rattle.typed_trees.specs.Leaves.{literal}
 use Rattle.typed_trees.specs.Trees.{tree_of, AreWellTyped}
 use Rattle.typed_trees.proofs.BindLemmas.{bind-Some}
 use Rattle.typed_trees.proofs.TypedLemmas.{tree_of-IsTyped, literal-IsTyped, init-IsTyped, deadlock-IsTyped, sort_of-declared}
 use Rattle.typed_trees.proofs.AllowedLemmas.{sort_of-Allowed}
 use Rattle.typed_trees.proofs.LeafLemmas.{lookup-All}
-use Rattle.typecheck.specs.Formulas.{of_truth, one_formula, two_formulas, formulas_of, truth}
+use Rattle.typecheck.specs.Formulas.{of_truth, one_formula, formulas_of, truth}
 use Rattle.typecheck.specs.Paths.{built_in, label_leaf}
 
 -- a tree that is taken as a state formula is of sort `bool`

@@ -1,5 +1,5 @@
 -- Refusals in order, as passes find them.
-use Rattle.std.proofs.Common.{◌≡◌, ℕ, Option, Bool, true, false, refl, sym, ap, ◌∙◌, subst}
+use Rattle.std.proofs.Common.{◌≡◌, ℕ, Option, true, sym, ap, ◌∙◌, subst}
 use Rattle.std.specs.Prelude.{None, Some, ◌⊎◌, MatchOption}
 use mathlib.Core.Logic.{inl, inr}
 use Rattle.std.specs.Option.{option_or, option_and_then}
@@ -60,6 +60,28 @@ has-horizon values (text.Until x time y) k is none = none.2 is.0 (subst (λ (t :
     same : (t u : Time) → Some t ≡ Some u → t ≡ u
     same t u e = cc
 
+-- a number of a property faults and the fault tells it, or none does and its time allows no state
+abbrev pub TellsNumber : (Expr → Valued) → Property → TypeFault → Type 0
+TellsNumber values property = Tells (first_fault values property) (λ found g. g ≡ fault.BadNumber item.Property (number_fault found))
+    (λ g. (g ≡ fault.BadHorizon) × HasNoHorizon values property.path)
+
+pub bound-told : (values : Expr → Valued) (property : Property) (f : TypeFault)
+    → IsOutOfMemory f ⊎ IsTold (fault_of (values property.bound)) (λ found g. g ≡ fault.BadNumber item.Property (number_fault found)) f
+    → IsOutOfMemory f ⊎ TellsNumber values property f
+bound-told values property f (inl out) = inl out
+bound-told values property f (inr told) =
+    inr (told-of-first (fault_of (values property.bound)) (time_fault values property.path) (λ found g. g ≡ fault.BadNumber item.Property (number_fault found))
+    (λ g. (g ≡ fault.BadHorizon) × HasNoHorizon values property.path) f told)
+
+pub time-told : (values : Expr → Valued) (property : Property) (f : TypeFault) → fault_of (values property.bound) ≡ None
+    → IsOutOfMemory f ⊎ Tells (time_fault values property.path) (λ found g. g ≡ fault.BadNumber item.Property (number_fault found))
+    (λ g. (g ≡ fault.BadHorizon) × HasNoHorizon values property.path) f
+    → IsOutOfMemory f ⊎ TellsNumber values property f
+time-told values property f none (inl out) = inl out
+time-told values property f none (inr told) =
+    inr (told-of-second (fault_of (values property.bound)) (time_fault values property.path) (λ found g. g ≡ fault.BadNumber item.Property (number_fault found))
+    (λ g. (g ≡ fault.BadHorizon) × HasNoHorizon values property.path) f none told)
+
 module _ (constant_tree tree : Expr → Option Typed) (constants names labels : Name → Option Typed) (values : Expr → Valued) (property : Property) (f : TypeFault) where
   abbrev Refused : Type 0
   Refused = IsOutOfMemory f ⊎ IsRefusedAs constant_tree tree constants names labels values property f
@@ -114,17 +136,10 @@ module _ (constant_tree tree : Expr → Option Typed) (constants names labels : 
   from-numbers one two three told =
       tells-later unknown HasName AtLabel f one (tells-later unlabelled HasLabel AtType f two (tells-later unfit HasType AtNumber f (ap failing three) told))
 
-  pub at-bound : unknown ≡ None → unlabelled ≡ None → property_fits constant_tree tree property ≡ true
-      → IsOutOfMemory f ⊎ IsTold (fault_of (values property.bound)) HasNumber f → Refused
-  at-bound one two three (inl out) = inl out
-  at-bound one two three (inr told) =
-      inr (from-numbers one two three (told-of-first (fault_of (values property.bound)) (time_fault values property.path) HasNumber AtHorizon f told))
-
-  pub at-time : unknown ≡ None → unlabelled ≡ None → property_fits constant_tree tree property ≡ true → fault_of (values property.bound) ≡ None
-      → IsOutOfMemory f ⊎ Tells (time_fault values property.path) HasNumber AtHorizon f → Refused
-  at-time one two three four (inl out) = inl out
-  at-time one two three four (inr told) =
-      inr (from-numbers one two three (told-of-second (fault_of (values property.bound)) (time_fault values property.path) HasNumber AtHorizon f four told))
+  pub at-numbers : unknown ≡ None → unlabelled ≡ None → property_fits constant_tree tree property ≡ true
+      → IsOutOfMemory f ⊎ TellsNumber values property f → Refused
+  at-numbers one two three (inl out) = inl out
+  at-numbers one two three (inr told) = inr (from-numbers one two three told)
 
   -- where each pass finds nothing there is no refusal
   pub not-refused : unknown ≡ None → unlabelled ≡ None → property_fits constant_tree tree property ≡ true → fault_of (values property.bound) ≡ None

@@ -1,8 +1,8 @@
 -- The modules that take part in an action: at least one, in rising order, and exactly those with a command of it.
-use Rattle.std.proofs.Common.{◌≡◌, ℕ, zero, suc, ◌+◌, ◌<◌, ◌≤◌, List, [], ◌∷◌, Option, Bool, true, false, All, length, map, get_or, bytes_eq, cond, nat_eq, refl, sym, ap, ◌∙◌, subst, arith, nat_lt}
+use Rattle.std.proofs.Common.{◌≡◌, ℕ, zero, suc, ◌<◌, ◌≤◌, List, [], ◌∷◌, Option, Bool, true, false, All, length, map, get_or, bytes_eq, cond, nat_eq, refl, sym, ap, ◌∙◌, subst, arith, nat_lt}
 use Rattle.std.specs.Prelude.{None, Some, ◌==◌, ◌&&◌, ◌||◌, filter, filter_map, position, if◌then◌else◌}
 use mathlib.Core.Logic.{inl, inr}
-use Rattle.std.specs.List.{list_any, AllPairs, dedup, dedup_from, enumerate_from, position_or_len, cons_option}
+use Rattle.std.specs.List.{list_any, AllPairs, dedup, dedup_from, position_or_len, cons_option}
 use Rattle.std.specs.Option.{option_map_or}
 use Rattle.std.proofs.lemmas.Bool.{cases_Bool, eqb-true}
 use Rattle.std.proofs.lemmas.Bool.Decides.{nat_tests}
@@ -10,7 +10,6 @@ use Rattle.std.proofs.lemmas.List.Elements.{All-nil, All-cons, All-head, All-tai
 use Rattle.std.proofs.lemmas.List.Kept.{AllPairs-cons, AllPairs-filter}
 use Rattle.std.proofs.lemmas.List.Sums.{position_or_len_is}
 use Rattle.chain_model.specs.declared.chain.Act.{Act}
-use Rattle.chain_model.specs.declared.chain.Action.{Action}
 use Rattle.chain_model.specs.Chain.{is_part, TakesExactly, IsAction}
 use Rattle.prism_syntax.specs.declared.commands.Command.{Command}
 use Rattle.prism_names.specs.First.{Name, is_among, AreDistinct}

@@ -1,5 +1,5 @@
 -- The trees of a flat model are well typed over the variables of its chain.
-use Rattle.std.proofs.Common.{◌≡◌, ℕ, ◌≤◌, List, [], ◌∷◌, Option, Bool, true, false, length, map, refl, sym, ap, ◌∙◌, subst}
+use Rattle.std.proofs.Common.{◌≡◌, ℕ, ◌≤◌, List, [], ◌∷◌, Option, Bool, true, false, length, map, refl, ap, ◌∙◌, subst}
 use Rattle.std.specs.Prelude.{None, Some}
 use Rattle.std.specs.Option.{option_map_or}
 use Rattle.chain_model.specs.declared.values.Sort.{Sort}

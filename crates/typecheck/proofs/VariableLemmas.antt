@@ -1,12 +1,10 @@
 -- The variables of a chain are those of the text, where nothing is wrong with their numbers.
-use Rattle.std.proofs.Common.{◌≡◌, ℕ, ◌+◌, ◌<◌, ◌≤◌, List, Option, Bool, true, false, All, length, map, refl, sym, ap, ◌∙◌, subst, arith, option_map}
-use Rattle.std.specs.Prelude.{None, Some, Ok, Err, ℤ, pos, ◌≤ℤ◌, MatchOption, IfSome, ◌&&◌, int_le, int_lt, if◌then◌else◌}
+use Rattle.std.proofs.Common.{◌≡◌, ℕ, ◌<◌, List, Option, true, refl, arith, option_map}
+use Rattle.std.specs.Prelude.{None, Some, Ok, Err, ℤ, pos, ◌≤ℤ◌, MatchOption, IfSome, ◌&&◌, int_le}
 use Rattle.std.specs.Option.{option_map_or, option_or, option_and_then}
 use Rattle.std.proofs.lemmas.Int.{ints}
-use Rattle.chain_model.specs.declared.values.Sort.{Sort}
 use Rattle.chain_model.specs.declared.values.Sort.TheVariants as sort
 use Rattle.chain_model.specs.declared.values.Value.{Value}
-use Rattle.chain_model.specs.declared.chain.Var.{Var}
 use Rattle.chain_model.specs.Chain.{IsVariable}
 use Rattle.chain_model.specs.Step.{stored}
 use Rattle.chain_model.specs.Values.{Valued}
@@ -16,9 +14,8 @@ use Rattle.prism_names.specs.First.{Name}
 use Rattle.const_eval.specs.declared.consts.Constant.{Constant}
 use Rattle.typed_trees.specs.Leaves.{shown}
 use Rattle.typed_trees.specs.Numbers.{constant_value}
-use Rattle.typecheck.specs.Declarations.{declared_sort}
 use Rattle.typecheck.specs.Numbers.{fault_of, whole_of}
-use Rattle.typecheck.specs.Ranges.{variable_fault, least, greatest, start, if_empty, if_outside}
+use Rattle.typecheck.specs.Ranges.{variable_fault, least, greatest, start, if_outside}
 use Rattle.typecheck.specs.Chains.{HasNumber, IsVariableOf}
 use Rattle.typecheck.specs.Limits.{IsWithin}
 use Rattle.typecheck.specs.Parts.{made_variable}

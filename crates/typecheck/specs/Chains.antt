@@ -1,5 +1,5 @@
 -- The chain of a flat model and its constants.
-use Rattle.std.specs.Prelude.{◌≡◌, ℕ, ℤ, pos, List, Option, Some, None, Ok, MatchOption, map, position, bytes_eq}
+use Rattle.std.specs.Prelude.{◌≡◌, ℕ, ℤ, pos, List, Option, Some, Ok, MatchOption, map, position, bytes_eq}
 use Rattle.std.specs.List.{AllZip}
 use Rattle.std.specs.Option.{option_and_then}
 use Rattle.smc_num.specs.Fraction.{Fraction}

@@ -1,7 +1,6 @@
 -- The variables, commands and labels of a flat model in text order, and the first whose sorts don't fit.
-use Rattle.std.specs.Prelude.{ℕ, ◌+◌, List, [], ◌∷◌, Option, Some, None, Bool, true, false, ◌&&◌, map, length, option_map, bytes_eq, nat_lt, if◌then◌else◌}
+use Rattle.std.specs.Prelude.{ℕ, ◌+◌, List, [], ◌∷◌, Option, Some, None, Bool, true, false, ◌&&◌, length, nat_lt, if◌then◌else◌}
 use Rattle.std.specs.List.{enumerate_from, list_all}
-use Rattle.std.specs.Map.{lookup}
 use Rattle.std.specs.Option.{option_map_or, option_or}
 use Rattle.chain_model.specs.declared.values.Sort.{Sort}
 use Rattle.chain_model.specs.declared.values.Sort.TheVariants as sort

@@ -1,5 +1,5 @@
 -- The numbers of expressions of constants.
-use Rattle.std.specs.Prelude.{ℤ, pos, Option, Some, None, Result, Ok, Err}
+use Rattle.std.specs.Prelude.{ℤ, pos, Option, Some, None, Ok, Err}
 use Rattle.smc_num.specs.declared.fault.NumFault.{NumFault}
 use Rattle.smc_num.specs.declared.fault.NumFault.TheVariants as num
 use Rattle.smc_num.specs.Fraction.{Fraction}

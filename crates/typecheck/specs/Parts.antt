@@ -1,5 +1,5 @@
 -- What is made of the parts of a flat model, where expressions have these trees and values: the parts of its chain.
-use Rattle.std.specs.Prelude.{ℕ, ◌==◌, pos, List, [], ◌∷◌, Option, Some, None, Bool, true, false, map, filter, option_map, position, bytes_eq, nat_eq}
+use Rattle.std.specs.Prelude.{ℕ, ◌==◌, List, [], ◌∷◌, Option, Some, None, Bool, false, map, filter, option_map, position, bytes_eq, nat_eq}
 use Rattle.std.specs.List.{enumerate_from, dedup}
 use Rattle.std.specs.Option.{option_map_or, option_and_then}
 use Rattle.chain_model.specs.declared.values.Sort.{Sort}
@@ -24,7 +24,7 @@ use Rattle.prism_syntax.specs.declared.models.Module.{Module}
 use Rattle.prism_names.specs.First.{Name}
 use Rattle.typed_trees.specs.Leaves.{literal, shown}
 use Rattle.typecheck.specs.declared.parts.Parts.{Parts}
-use Rattle.typecheck.specs.Declarations.{module_name, declared_sort, first_appearances}
+use Rattle.typecheck.specs.Declarations.{module_name, declared_sort}
 use Rattle.typecheck.specs.Ranges.{least, greatest, start}
 use Rattle.typecheck.specs.Chains.{one}
 

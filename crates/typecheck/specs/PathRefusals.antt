@@ -1,5 +1,5 @@
 -- The refusals of a property's types, in order, each with the first name in text order.
-use Rattle.std.specs.Prelude.{◌≡◌, ℕ, List, Option, Some, None, option_map, Bool, true, false, ◌&&◌, is_some, IfSome}
+use Rattle.std.specs.Prelude.{◌≡◌, ℕ, List, Option, Some, Bool, true, false, ◌&&◌, is_some}
 use Rattle.std.specs.Option.{option_or, option_map_or, option_and_then}
 use Rattle.chain_model.specs.declared.outcome.TraceFault.{TraceFault}
 use Rattle.chain_model.specs.declared.values.Sort.TheVariants as sort

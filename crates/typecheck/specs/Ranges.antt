@@ -1,5 +1,5 @@
 -- The numbers of a flat model's ranges: the first that has none, the first range that is empty, and the first initial value outside.
-use Rattle.std.specs.Prelude.{ℕ, ℤ, pos, List, Option, Some, None, Bool, true, false, ◌&&◌, option_map, int_le, int_lt, if◌then◌else◌}
+use Rattle.std.specs.Prelude.{ℕ, ℤ, pos, List, Option, Some, None, ◌&&◌, option_map, int_le, int_lt, if◌then◌else◌}
 use Rattle.std.specs.List.{enumerate_from}
 use Rattle.std.specs.Option.{option_map_or, option_or, option_and_then}
 use Rattle.chain_model.specs.declared.outcome.TraceFault.{TraceFault}

@@ -15,9 +15,10 @@ ghost use Rattle.typecheck.specs.Writes.{foreign_write, global_write, double_wri
 ghost use Rattle.typecheck.specs.Sorts.{sort_in, IsScope};
 ghost use Rattle.typecheck.specs.ModelRefusals.{TellsSorts, TellsNumbers, TellsWrites, IsTooLarge, IsRefused};
 ghost use Rattle.typecheck.specs.Chains.{IsChainOf};
+ghost use Rattle.typecheck.specs.ModelTables.{AreTables};
 
 use crate::fault::TypeFault;
-use crate::model_tables::model_tables;
+use crate::model_tables::{Tables, model_tables};
 use crate::parts::{chain_of, made_parts};
 use crate::refusals::{
     refuse_double, refuse_empty, refuse_fault, refuse_foreign, refuse_global, refuse_outside,
@@ -38,10 +39,24 @@ pub fn check(alloc: Global, flat: &FlatText, consts: &Consts) -> Result<Chain, T
     ensures accepted { OnOk result ((fault : TypeFault) → ¬ IsRefused flat.now consts.now fault) }
     ensures refused { IfErr result (λ fault. IsOutOfMemory fault ⊎ IsRefused flat.now consts.now fault) }
 {
-    let tables = match model_tables(alloc, flat) {
-        Ok(tables) => tables,
-        Err(error) => return Err(TypeFault::OutOfMemory(error)),
-    };
+    match model_tables(alloc, flat) {
+        Ok(tables) => checked(alloc, flat, consts, &tables),
+        Err(error) => Err(TypeFault::OutOfMemory(error)),
+    }
+}
+
+/// The chain of a flat model with its constants and these tables, or why its types are refused.
+fn checked(
+    alloc: Global,
+    flat: &FlatText,
+    consts: &Consts,
+    tables: &Tables<'_>,
+) -> Result<Chain, TypeFault>
+    requires { AreTables tables.now flat.now }
+    ensures chain { IfOk result (λ chain. IsChainOf flat.now consts.now chain) }
+    ensures accepted { OnOk result ((fault : TypeFault) → ¬ IsRefused flat.now consts.now fault) }
+    ensures refused { IfErr result (λ fault. IsOutOfMemory fault ⊎ IsRefused flat.now consts.now fault) }
+{
     let constants = Scope {
         consts,
         variables: &tables.nothing,

@@ -7,6 +7,7 @@ ghost use Rattle.typed_trees.specs.Scopes.{tree_in};
 ghost use Rattle.typecheck.specs.Chains.{one};
 ghost use Rattle.typecheck.specs.Parts.{all_made, number_of, assigned_number, made_set, made_weight, made_branch, action_number, made_command};
 
+use crate::pairs::both;
 use crate::refusals::shown;
 use chain_model::{Act, Arm, Form, Sort, Typed, Value};
 use indexmap::IndexSet;
@@ -45,11 +46,12 @@ fn made_command(
 ) -> Result<Option<Act>, AllocError>
     ensures { IfOk result (λ found. found ≡ made_command (tree_in scope.now) (get bytes_eq scope.now.variables.now) names.now.keys (owner, command.now)) }
 {
-    let Some(guard) = type_tree(alloc, scope, &command.guard)? else {
-        return Ok(None);
-    };
-    match made_branches(alloc, scope, command.branches.as_slice())? {
-        Some(branches) => Ok(Some(Act {
+    let (guard, branches) = both(
+        type_tree(alloc, scope, &command.guard),
+        made_branches(alloc, scope, command.branches.as_slice()),
+    )?;
+    match guard.zip(branches) {
+        Some((guard, branches)) => Ok(Some(Act {
             module: shown(owner),
             action: action_number(names, &command.action),
             guard,
@@ -94,11 +96,12 @@ fn made_branches(
 fn made_branch(alloc: Global, scope: &Scope<'_>, branch: &Branch) -> Result<Option<Arm>, AllocError>
     ensures { IfOk result (λ found. found ≡ made_branch (tree_in scope.now) (get bytes_eq scope.now.variables.now) branch.now) }
 {
-    let Some(weight) = made_weight(alloc, scope, branch)? else {
-        return Ok(None);
-    };
-    match made_sets(alloc, scope, branch.sets.as_slice())? {
-        Some(sets) => Ok(Some(Arm { weight, sets })),
+    let (weight, sets) = both(
+        made_weight(alloc, scope, branch),
+        made_sets(alloc, scope, branch.sets.as_slice()),
+    )?;
+    match weight.zip(sets) {
+        Some((weight, sets)) => Ok(Some(Arm { weight, sets })),
         None => Ok(None),
     }
 }

@@ -8,12 +8,12 @@ ghost use Rattle.typecheck.specs.Declarations.{declared_sort};
 ghost use Rattle.typecheck.specs.Items.{is_tree_of, range_fits, init_fits, variable_fits, assignment_fits, weight_fits, branch_fits, command_fits};
 ghost use Rattle.typecheck.specs.Sorts.{sort_in};
 
-use crate::formulas::is_number_tree;
+use crate::formulas::{is_number_tree, sort_of};
 use chain_model::Sort;
 use prism_syntax::{Branch, Command, Expr, Variable};
 use smc_num::Text;
 use std::alloc::{AllocError, Global};
-use typed_trees::{Scope, type_tree};
+use typed_trees::Scope;
 
 /// Whether two sorts are one.
 fn is_same_sort(a: Sort, b: Sort) -> bool
@@ -35,8 +35,8 @@ pub fn is_tree_of(
 ) -> Result<bool, AllocError>
     ensures { IfOk result (λ fits. fits ≡ is_tree_of sort (tree_in scope.now expr.now)) }
 {
-    match type_tree(alloc, scope, expr)? {
-        Some(tree) => Ok(is_same_sort(sort, tree.sort)),
+    match sort_of(alloc, scope, expr)? {
+        Some(found) => Ok(is_same_sort(sort, found)),
         None => Ok(false),
     }
 }

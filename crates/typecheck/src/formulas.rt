@@ -1,10 +1,11 @@
 //! The typed trees of the state formulas of a path, and whether the sorts of a property's numbers fit.
 
-ghost use Rattle.std.specs.Prelude.{◌≡◌, IfOk, Some};
+ghost use Rattle.std.specs.Prelude.{◌≡◌, IfOk, Some, option_map};
 ghost use Rattle.typed_trees.specs.Scopes.{tree_in};
 ghost use Rattle.typecheck.specs.Formulas.{of_truth, one_formula, two_formulas, formulas_of};
 ghost use Rattle.typecheck.specs.PathRefusals.{is_whole_tree, is_number_tree, numbers_fit};
 
+use crate::pairs::both;
 use chain_model::{Sort, Typed, Value, is_number};
 use prism_syntax::{Expr, PathText, Property, Time};
 use std::alloc::{AllocError, Global};
@@ -49,13 +50,11 @@ fn two_formulas(
 ) -> Result<Option<(Typed, Typed)>, AllocError>
     ensures { IfOk result (λ found. found ≡ two_formulas (tree_in scope.now first.now) (tree_in scope.now second.now)) }
 {
-    let Some(first) = truth_tree(alloc, scope, first)? else {
-        return Ok(None);
-    };
-    match truth_tree(alloc, scope, second)? {
-        Some(second) => Ok(Some((first, second))),
-        None => Ok(None),
-    }
+    let (first, second) = both(
+        truth_tree(alloc, scope, first),
+        truth_tree(alloc, scope, second),
+    )?;
+    Ok(first.zip(second))
 }
 
 /// The tree of a state formula, where it is of sort `bool`.
@@ -101,8 +100,8 @@ pub fn numbers_fit(
 pub fn is_number_tree(alloc: Global, scope: &Scope<'_>, expr: &Expr) -> Result<bool, AllocError>
     ensures { IfOk result (λ fits. fits ≡ is_number_tree (tree_in scope.now expr.now)) }
 {
-    match type_tree(alloc, scope, expr)? {
-        Some(tree) => Ok(is_number(tree.sort)),
+    match sort_of(alloc, scope, expr)? {
+        Some(sort) => Ok(is_number(sort)),
         None => Ok(false),
     }
 }
@@ -111,8 +110,18 @@ pub fn is_number_tree(alloc: Global, scope: &Scope<'_>, expr: &Expr) -> Result<b
 fn is_whole_tree(alloc: Global, scope: &Scope<'_>, expr: &Expr) -> Result<bool, AllocError>
     ensures { IfOk result (λ fits. fits ≡ is_whole_tree (tree_in scope.now expr.now)) }
 {
-    match type_tree(alloc, scope, expr)? {
-        Some(tree) => Ok(matches!(tree.sort, Sort::Int)),
+    match sort_of(alloc, scope, expr)? {
+        Some(sort) => Ok(matches!(sort, Sort::Int)),
         None => Ok(false),
+    }
+}
+
+/// The sort of an expression, where it has a tree.
+pub fn sort_of(alloc: Global, scope: &Scope<'_>, expr: &Expr) -> Result<Option<Sort>, AllocError>
+    ensures { IfOk result (λ found. found ≡ option_map (λ tree. tree.sort) (tree_in scope.now expr.now)) }
+{
+    match type_tree(alloc, scope, expr)? {
+        Some(tree) => Ok(Some(tree.sort)),
+        None => Ok(None),
     }
 }

@@ -4,6 +4,7 @@ ghost use Rattle.std.specs.Prelude.{◌≡◌, map, IfOk};
 ghost use Rattle.typed_trees.specs.Scopes.{tree_in};
 ghost use Rattle.typecheck.specs.Parts.{all_made, made_label};
 
+use crate::pairs::both;
 use chain_model::Typed;
 use prism_syntax::Named;
 use smc_num::Text;
@@ -37,8 +38,9 @@ fn made_label(
 ) -> Result<Option<(Text, Typed)>, AllocError>
     ensures { IfOk result (λ found. found ≡ made_label (tree_in scope.now) label.now) }
 {
-    match type_tree(alloc, scope, &label.body)? {
-        Some(body) => Ok(Some((label.name.copy(alloc)?, body))),
+    let (name, body) = both(label.name.copy(alloc), type_tree(alloc, scope, &label.body))?;
+    match body {
+        Some(body) => Ok(Some((name, body))),
         None => Ok(None),
     }
 }

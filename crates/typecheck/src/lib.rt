@@ -17,6 +17,7 @@ mod listing;
 mod model_tables;
 mod numbers;
 mod owners;
+mod pairs;
 mod parts;
 mod paths;
 mod quoted;

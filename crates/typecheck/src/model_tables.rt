@@ -5,6 +5,7 @@ ghost use Rattle.typecheck.specs.ModelTables.{AreTables};
 
 use crate::listing::{declared_commands, declared_variables};
 use crate::owners::owner_table;
+use crate::pairs::both;
 use crate::tables::declared_table;
 use chain_model::Typed;
 use indexmap::IndexMap;
@@ -26,16 +27,19 @@ pub struct Tables<'a> {
 pub fn model_tables<'a>(alloc: Global, flat: &'a FlatText) -> Result<Tables<'a>, AllocError>
     ensures { IfOk result (λ tables. AreTables tables flat.now) }
 {
-    let variables = declared_variables(alloc, flat)?;
-    let commands = declared_commands(alloc, flat)?;
-    let trees = declared_table(alloc, variables.as_slice())?;
-    let owners = owner_table(alloc, variables.as_slice())?;
-    let nothing = IndexMap::new(alloc);
+    let (variables, commands) = both(
+        declared_variables(alloc, flat),
+        declared_commands(alloc, flat),
+    )?;
+    let (trees, owners) = both(
+        declared_table(alloc, variables.as_slice()),
+        owner_table(alloc, variables.as_slice()),
+    )?;
     Ok(Tables {
         variables,
         commands,
         trees,
         owners,
-        nothing,
+        nothing: IndexMap::new(alloc),
     })
 }

@@ -1,21 +1,25 @@
-ghost use Rattle.std.specs.Prelude.{◌≡◌, ◌⊎◌, IfOk, IfErr, OnOk, None, Some, true};
+ghost use Rattle.std.specs.Prelude.{◌≡◌, ◌⊎◌, ◌++◌, List, ℕ, IfOk, IfErr, OnOk, Ok, None, Some, true, bytes_eq};
+ghost use Rattle.indexmap.specs.IndexMap.{get};
 ghost use Rattle.chain_model.specs.Paths.{IsPath};
-ghost use Rattle.typed_trees.specs.Scopes.{name_in, label_in, tree_in};
+ghost use Rattle.typed_trees.specs.Leaves.{numbered};
+ghost use Rattle.typed_trees.specs.Scopes.{IsTable, name_in, label_in, tree_in};
 ghost use Rattle.typed_trees.specs.Numbers.{constant_value};
 ghost use Rattle.typecheck.specs.declared.fault.TypeFault.{TypeFault};
-ghost use Rattle.typecheck.specs.Refusals.{IsTold, failing, IsOutOfMemory};
+ghost use Rattle.typecheck.specs.Refusals.{IsTold, Tells, failing, IsOutOfMemory};
 ghost use Rattle.typecheck.specs.Names.{unknown_in};
 ghost use Rattle.typecheck.specs.Formulas.{formulas_of, last_of, is_at_most};
-ghost use Rattle.typecheck.specs.Paths.{IsTypedAs, IsPathOf};
-ghost use Rattle.typecheck.specs.PathRefusals.{unknown_in_path, unknown_in_property, unknown_label_in_path, property_fits, IsRefusedAs, IsRefusedProperty};
+ghost use Rattle.typecheck.specs.Numbers.{number_fault};
+ghost use Rattle.typecheck.specs.Paths.{built_in, sorts_of_variables, HasKind, IsTypedAs, IsPathOf};
+ghost use Rattle.typecheck.specs.PathRefusals.{unknown_in_path, unknown_in_property, unknown_label_in_path, property_fits, time_fault, first_fault, HasNoHorizon, IsRefusedAs, IsRefusedProperty};
 
 use crate::fault::{Item, TypeFault};
 use crate::formulas::{formulas_of, numbers_fit};
 use crate::horizons::{number_in, path_kind};
 use crate::known::{unknown_in, unknown_label_in};
 use crate::numbers::fraction;
+use crate::pairs::both;
 use crate::tables::{label_table, variable_table};
-use chain_model::{Chain, Claim, Path, Typed};
+use chain_model::{Chain, Claim, Path, PathKind, Typed, Value};
 use const_eval::Consts;
 use indexmap::IndexMap;
 use prism_syntax::{Cmp, PathText, Property, Time};
@@ -35,18 +39,60 @@ pub fn path(
     ensures accepted { IfOk result (λ made. (fault : TypeFault) → ¬ IsRefusedProperty consts.now chain.now property.now fault) }
     ensures refused { IfErr result (λ fault. IsOutOfMemory fault ⊎ IsRefusedProperty consts.now chain.now property.now fault) }
 {
-    let none: IndexMap<Text, Typed> = IndexMap::new(alloc);
-    let variables = variable_table(alloc, chain.vars.as_slice()).map_err(TypeFault::OutOfMemory)?;
-    let labels = label_table(alloc, chain.labels.as_slice()).map_err(TypeFault::OutOfMemory)?;
+    match names_of(alloc, chain) {
+        Ok(names) => path_over(alloc, property, consts, chain, &names),
+        Err(error) => Err(TypeFault::OutOfMemory(error)),
+    }
+}
+
+/// What the names of variables and of labels stand for. The last table has no name.
+#[derive(Drop)]
+struct Names {
+    variables: IndexMap<Text, Typed>,
+    labels: IndexMap<Text, Typed>,
+    nothing: IndexMap<Text, Typed>,
+}
+
+/// What the names of a chain's variables and labels stand for.
+fn names_of(alloc: Global, chain: &Chain) -> Result<Names, AllocError>
+    ensures variables { IfOk result (λ names. IsTable names.variables (numbered (sorts_of_variables chain.now.vars))) }
+    ensures labels { IfOk result (λ names. IsTable names.labels (built_in ++ chain.now.labels)) }
+    ensures nothing { IfOk result (λ names. (name : List ℕ) → get bytes_eq names.nothing name ≡ None) }
+{
+    let variables = variable_table(alloc, chain.vars.as_slice())?;
+    let labels = label_table(alloc, chain.labels.as_slice())?;
+    Ok(Names {
+        variables,
+        labels,
+        nothing: IndexMap::new(alloc),
+    })
+}
+
+/// The path formula of a property over a chain whose names stand for this, and what the property claims of it.
+fn path_over(
+    alloc: Global,
+    property: &Property,
+    consts: &Consts,
+    chain: &Chain,
+    names: &Names,
+) -> Result<(Path, Claim), TypeFault>
+    requires variables { IsTable names.now.variables (numbered (sorts_of_variables chain.now.vars)) }
+    requires labels { IsTable names.now.labels (built_in ++ chain.now.labels) }
+    requires nothing { (name : List ℕ) → get bytes_eq names.now.nothing name ≡ None }
+    ensures path { IfOk result (λ made. IsPathOf consts.now chain.now property.now made.0 made.1) }
+    ensures formed { IfOk result (λ made. IsPath chain.now.vars made.0) }
+    ensures accepted { IfOk result (λ made. (fault : TypeFault) → ¬ IsRefusedProperty consts.now chain.now property.now fault) }
+    ensures refused { IfErr result (λ fault. IsOutOfMemory fault ⊎ IsRefusedProperty consts.now chain.now property.now fault) }
+{
     let constants = Scope {
         consts,
-        variables: &none,
-        labels: &none,
+        variables: &names.nothing,
+        labels: &names.nothing,
     };
     let scope = Scope {
         consts,
-        variables: &variables,
-        labels: &labels,
+        variables: &names.variables,
+        labels: &names.labels,
     };
     typed_property(alloc, property, consts, &constants, &scope)
 }
@@ -67,9 +113,10 @@ fn typed_property(
 {
     refuse_unknown_names(alloc, property, constants, scope)?;
     refuse_unknown_labels(alloc, &property.path, scope)?;
-    let (first, second) = typed_formulas(alloc, property, constants, scope)?;
-    let bound = number_in(alloc, consts, &property.bound)?;
-    let kind = path_kind(alloc, consts, &property.path)?;
+    let ((first, second), (bound, kind)) = both(
+        typed_formulas(alloc, property, constants, scope),
+        numbers_of(alloc, property, consts),
+    )?;
     let path = Path {
         kind,
         first,
@@ -80,6 +127,24 @@ fn typed_property(
         at_most: is_at_most(property.cmp),
     };
     Ok((path, claim))
+}
+
+/// The value of a property's bound, and the kind of its path formula.
+fn numbers_of(
+    alloc: Global,
+    property: &Property,
+    consts: &Consts,
+) -> Result<(Value, PathKind), TypeFault>
+    ensures bound { IfOk result (λ numbers. constant_value consts.now property.now.bound ≡ Ok numbers.0) }
+    ensures kind { IfOk result (λ numbers. HasKind (constant_value consts.now) property.now.path numbers.1) }
+    ensures valued { OnOk result (time_fault (constant_value consts.now) property.now.path ≡ None) }
+    ensures told { IfErr result (λ fault. IsOutOfMemory fault
+        ⊎ Tells (first_fault (constant_value consts.now) property.now) (λ found f. f ≡ TypeFault.BadNumber Item.Property (number_fault found))
+        (λ f. (f ≡ TypeFault.BadHorizon) × HasNoHorizon (constant_value consts.now) property.now.path) fault) }
+{
+    let bound = number_in(alloc, consts, &property.bound)?;
+    let kind = path_kind(alloc, consts, &property.path)?;
+    Ok((bound, kind))
 }
 
 /// Refuses a property in which a name stands for nothing.

@@ -1,8 +1,10 @@
 //! Tables of what names and labels stand for.
 
-ghost use Rattle.std.specs.Prelude.{◌≡◌, ◌≤◌, ◌++◌, IfOk, length, map};
+ghost use Rattle.std.specs.Prelude.{◌≡◌, ◌≤◌, ◌++◌, ◌∷◌, [], List, IfOk, OnOk, length, map};
+ghost use Rattle.chain_model.specs.declared.expressions.Typed.{Typed};
 ghost use Rattle.chain_model.specs.Limits.{most_variables};
-ghost use Rattle.typed_trees.specs.Leaves.{numbered};
+ghost use Rattle.prism_names.specs.First.{Name};
+ghost use Rattle.typed_trees.specs.Leaves.{numbered, variable};
 ghost use Rattle.typed_trees.specs.Scopes.{IsTable};
 ghost use Rattle.typecheck.specs.Declarations.{declared_sort};
 ghost use Rattle.typecheck.specs.Paths.{built_in, sorts_of_variables};
@@ -23,11 +25,7 @@ pub fn variable_table(alloc: Global, vars: &[Var]) -> Result<IndexMap<Text, Type
 {
     let mut table = IndexMap::new(alloc);
     for (number, var) in vars.iter().enumerate() {
-        let tree = Typed {
-            sort: var.sort,
-            form: Form::Var(number as u32),
-        };
-        add_tree(&mut table, var.name.copy(alloc)?, tree)?;
+        add_variable(alloc, &mut table, &var.name, var.sort, number as u32)?;
     }
     Ok(table)
 }
@@ -41,13 +39,32 @@ pub fn declared_table(
 {
     let mut table = IndexMap::new(alloc);
     for (number, variable) in variables.iter().enumerate() {
-        let tree = Typed {
-            sort: declared_sort(variable.1),
-            form: Form::Var(shown(number)),
-        };
-        add_tree(&mut table, variable.1.name.copy(alloc)?, tree)?;
+        let sort = declared_sort(variable.1);
+        add_variable(alloc, &mut table, &variable.1.name, sort, shown(number))?;
     }
     Ok(table)
+}
+
+/// Lists a variable more, of this sort and with this number.
+fn add_variable(
+    alloc: Global,
+    table: &mut IndexMap<Text, Typed>,
+    name: &Text,
+    sort: Sort,
+    number: u32,
+) -> Result<(), AllocError>
+    ensures { OnOk result ((trees : List (Name × Typed)) → IsTable table.old trees
+        → IsTable table.new (trees ++ (name.now, variable sort number) ∷ [])) }
+{
+    let name = name.copy(alloc)?;
+    add_tree(
+        table,
+        name,
+        Typed {
+            sort,
+            form: Form::Var(number),
+        },
+    )
 }
 
 /// What the names of labels stand for: the built-in ones, and those of a chain.
@@ -57,19 +74,43 @@ pub fn label_table(
 ) -> Result<IndexMap<Text, Typed>, AllocError>
     ensures { IfOk result (λ table. IsTable table (built_in ++ labels.now)) }
 {
-    let mut table = IndexMap::new(alloc);
-    let init = Text::from_bytes(alloc, b"init")?;
-    add_tree(&mut table, init, truth_tree(Form::IsInit))?;
-    let deadlock = Text::from_bytes(alloc, b"deadlock")?;
-    add_tree(&mut table, deadlock, truth_tree(Form::IsDeadlock))?;
+    let mut table = built_in_table(alloc)?;
     for label in labels {
-        add_tree(
-            &mut table,
-            label.0.copy(alloc)?,
-            copy_tree(alloc, &label.1)?,
-        )?;
+        add_label(alloc, &mut table, label)?;
     }
     Ok(table)
+}
+
+/// What the names of the built-in labels stand for.
+fn built_in_table(alloc: Global) -> Result<IndexMap<Text, Typed>, AllocError>
+    ensures { IfOk result (λ table. IsTable table built_in) }
+{
+    let mut table = IndexMap::new(alloc);
+    add_built_in(alloc, &mut table)?;
+    Ok(table)
+}
+
+/// Lists the built-in labels in a table of none.
+fn add_built_in(alloc: Global, table: &mut IndexMap<Text, Typed>) -> Result<(), AllocError>
+    ensures { OnOk result (IsTable table.old [] → IsTable table.new built_in) }
+{
+    let init = Text::from_bytes(alloc, b"init")?;
+    add_tree(table, init, truth_tree(Form::IsInit))?;
+    let deadlock = Text::from_bytes(alloc, b"deadlock")?;
+    add_tree(table, deadlock, truth_tree(Form::IsDeadlock))
+}
+
+/// Lists a label more.
+fn add_label(
+    alloc: Global,
+    table: &mut IndexMap<Text, Typed>,
+    label: &(Text, Typed),
+) -> Result<(), AllocError>
+    ensures { OnOk result ((trees : List (Name × Typed)) → IsTable table.old trees → IsTable table.new (trees ++ label.now ∷ [])) }
+{
+    let name = label.0.copy(alloc)?;
+    let tree = copy_tree(alloc, &label.1)?;
+    add_tree(table, name, tree)
 }
 
 /// The tree of a built-in label.

@@ -1,7 +1,6 @@
-use Rattle.std.proofs.Common.{◌≡◌, Option, Some, List, [], ◌∷◌, ◌++◌, ap, sym, ◌∙◌, option_copied}
+use Rattle.std.proofs.Common.{◌≡◌, Some, [], ◌∷◌, ◌++◌, ap, sym, ◌∙◌, option_copied}
 use Rattle.std.specs.Prelude.{slice_get}
 use Rattle.std.proofs.lemmas.Option.{slice_get_within, get_or_from_slice_get}
-use Rattle.chain_model.specs.declared.chain.Action.{Action}
 use Rattle.prism_names.specs.First.{Name}
 use Rattle.typecheck.proofs.ActionLemmas.{actions-more}
 use Rattle.typecheck.proofs.actions.made_actions.Goals as goal

@@ -1,11 +1,10 @@
-use Rattle.std.proofs.Common.{◌≡◌, ℕ, List, Option, refl, bytes_eq, map, sym, ap, ◌∙◌}
+use Rattle.std.proofs.Common.{◌≡◌, ℕ, Option, refl, bytes_eq, map, sym, ap, ◌∙◌}
 use Rattle.indexmap.specs.IndexMap.{get}
 use Rattle.prism_syntax.specs.declared.commands.Command.{Command}
 use Rattle.prism_syntax.specs.declared.models.Variable.{Variable}
-use Rattle.prism_names.specs.First.{Name}
 use Rattle.typecheck.specs.declared.fault.TypeFault.TheVariants as fault
 use Rattle.typecheck.specs.Declarations.{declared_variables, declared_commands}
-use Rattle.typecheck.specs.Writes.{owner_in, is_too_large}
+use Rattle.typecheck.specs.Writes.{owner_in}
 use Rattle.std.proofs.lemmas.Result.{err_from_is_err_and}
 use Rattle.typecheck.proofs.DeclaredLemmas.{map-map}
 use Rattle.typecheck.proofs.ModelLemmas.{sorts-told-or, unknown-none, unfit-none, at-sorts, at-numbers, at-writes, at-limits, nothing-told, numbers-same, fault-same, empty-same, outside-same, writes-same, foreign-same, global-same, double-same, large-same}

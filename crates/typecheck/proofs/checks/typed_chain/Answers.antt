@@ -3,7 +3,6 @@ use Rattle.std.specs.Prelude.{IsSome}
 use Rattle.prism_syntax.specs.declared.models.Variable.{Variable}
 use Rattle.typed_trees.specs.Numbers.{constant_value}
 use Rattle.typecheck.specs.declared.parts.Parts.{Parts}
-use Rattle.typecheck.specs.Declarations.{declared_variables}
 use Rattle.typecheck.specs.Limits.{IsWithin}
 use Rattle.typecheck.specs.Parts.{made_variable}
 use Rattle.typecheck.proofs.MakingLemmas.{same-Some}

@@ -1,4 +1,4 @@
-use Rattle.std.proofs.Common.{◌≡◌, drop, map, bytes_eq}
+use Rattle.std.proofs.Common.{◌≡◌, drop, map}
 use Rattle.typed_trees.specs.Scopes.{tree_in}
 use Rattle.typecheck.specs.Parts.{all_made, made_label}
 use Rattle.typecheck.proofs.MakingLemmas.{made_with}

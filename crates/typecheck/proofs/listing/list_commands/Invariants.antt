@@ -1,4 +1,4 @@
-use Rattle.std.proofs.Common.{◌≡◌, ◌++◌, map, take, ℕ, Option}
+use Rattle.std.proofs.Common.{◌≡◌, ◌++◌, map, take, ℕ}
 use Rattle.prism_syntax.specs.declared.commands.Command.{Command}
 use Rattle.typecheck.proofs.listing.list_commands.Given as goal
 

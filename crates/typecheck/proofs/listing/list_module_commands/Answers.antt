@@ -1,5 +1,4 @@
-use Rattle.std.proofs.Common.{◌++◌, ℕ, Option, map, ap, ◌∙◌}
-use Rattle.std.specs.Prelude.{Some}
+use Rattle.std.proofs.Common.{◌++◌, ℕ, map, ap, ◌∙◌}
 use Rattle.typecheck.specs.Declarations.{commands_of}
 use Rattle.typecheck.proofs.ListingLemmas.{appended, listed_more}
 use Rattle.prism_syntax.specs.declared.commands.Command.{Command}

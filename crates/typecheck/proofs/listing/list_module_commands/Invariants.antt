@@ -1,5 +1,5 @@
-use Rattle.std.proofs.Common.{◌≡◌, ◌++◌, map, take, ℕ, Option}
-use Rattle.std.specs.Prelude.{Some, flat_map}
+use Rattle.std.proofs.Common.{◌≡◌, ◌++◌, map, take, ℕ}
+use Rattle.std.specs.Prelude.{flat_map}
 use Rattle.std.specs.List.{enumerate_from}
 use Rattle.typecheck.specs.Declarations.{commands_of}
 use Rattle.prism_syntax.specs.declared.commands.Command.{Command}

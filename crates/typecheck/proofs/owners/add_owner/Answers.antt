@@ -1,4 +1,4 @@
-use Rattle.std.proofs.Common.{◌≡◌, sym, ◌∙◌, bytes_eq}
+use Rattle.std.proofs.Common.{sym, ◌∙◌, bytes_eq}
 use Rattle.indexmap.specs.IndexMap.{get}
 use Rattle.typecheck.proofs.OwnerLemmas.{owner-added, owner-kept, copied-None, copied-Some}
 use Rattle.typecheck.proofs.owners.add_owner.Goals as goal

@@ -1,7 +1,6 @@
-use Rattle.std.proofs.Common.{◌≡◌, ◌+◌, ◌∷◌, List, Option, length, drop, sym, ap, ◌∙◌, refl}
+use Rattle.std.proofs.Common.{◌+◌, ◌∷◌, Option, length, drop, sym, ap, ◌∙◌, refl}
 use Rattle.std.specs.Option.{option_or}
 use Rattle.std.proofs.lemmas.List.{drop_more}
-use Rattle.prism_syntax.specs.declared.models.Module.{Module}
 use Rattle.typed_trees.specs.Leaves.{shown}
 use Rattle.typed_trees.specs.Scopes.{tree_in}
 use Rattle.typecheck.specs.declared.fault.Item.{Item}

@@ -1,8 +1,8 @@
 use Rattle.std.proofs.Common.{◌≡◌, take, map, bytes_eq}
-use Rattle.std.specs.Prelude.{None, Some, if◌then◌else◌}
+use Rattle.std.specs.Prelude.{None}
 use Rattle.indexmap.specs.IndexMap.{get}
-use Rattle.prism_names.specs.First.{first_some, first_repeated}
-use Rattle.typecheck.specs.Writes.{is_foreign, is_global, assigned_names, double_write, foreign_write, global_write}
+use Rattle.prism_names.specs.First.{first_some}
+use Rattle.typecheck.specs.Writes.{global_write}
 use Rattle.typecheck.proofs.writes.first_global.Given as goal
 
 -- nothing is told of those so far

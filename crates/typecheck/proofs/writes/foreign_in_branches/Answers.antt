@@ -1,10 +1,9 @@
-use Rattle.std.proofs.Common.{sym, ap, ◌∙◌, bytes_eq, ◌≡◌}
-use Rattle.std.specs.Prelude.{None, Some, if◌then◌else◌, option_map}
+use Rattle.std.proofs.Common.{sym, ◌∙◌, bytes_eq}
+use Rattle.std.specs.Prelude.{None, Some, if◌then◌else◌}
 use Rattle.const_eval.proofs.FirstLemmas.{told_more, told_here}
-use Rattle.typecheck.proofs.MappedLemmas.{mapped_more, mapped_here, numbered_more, numbered_here}
 use Rattle.indexmap.specs.IndexMap.{get}
-use Rattle.prism_names.specs.First.{first_some, first_repeated}
-use Rattle.typecheck.specs.Writes.{is_foreign, is_global, assigned_names, double_write, foreign_write, global_write}
+use Rattle.prism_names.specs.First.{first_some}
+use Rattle.typecheck.specs.Writes.{is_foreign}
 use Rattle.typecheck.proofs.writes.foreign_in_branches.Goals as goal
 
 pub returns-in-Some : goal.returns-in-Some
