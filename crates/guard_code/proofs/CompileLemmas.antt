@@ -46,20 +46,18 @@ all_mean_more nodes after exprs i expr node lt is means more all = record {
       ∙ ap (map (value_with labels state)) (sym (take_more exprs i expr lt));
 }
 
-pub means_not : {E : Type 0} (r : Result Node E) (node : Node) (part expr : Typed)
-    → IfOk r (λ made. Always (λ labels state. node_value labels state made ≡ negation (node_value labels state node))) → Means node part
-    → ((labels : LabelValues) (state : State) → value_with labels state expr ≡ negation (value_with labels state part)) → IfOk r (λ made. Means made expr)
-means_not (Err e) node part expr made means is = tt
-means_not (Ok m) node part expr made means is = record {
-  same = λ labels state small. made labels state small ∙ ap negation (means.same labels state small) ∙ sym (is labels state);
+pub means_not : (made node : Node) (part expr : Typed)
+    → Always (λ labels state. node_value labels state made ≡ negation (node_value labels state node)) → Means node part
+    → ((labels : LabelValues) (state : State) → value_with labels state expr ≡ negation (value_with labels state part)) → Means made expr
+means_not made node part expr so means is = record {
+  same = λ labels state small. so labels state small ∙ ap negation (means.same labels state small) ∙ sym (is labels state);
 }
 
-pub means_minus : {E : Type 0} (r : Result Node E) (node : Node) (part expr : Typed)
-    → IfOk r (λ made. Always (λ labels state. node_value labels state made ≡ opposite_value (node_value labels state node))) → Means node part
-    → ((labels : LabelValues) (state : State) → value_with labels state expr ≡ opposite_value (value_with labels state part)) → IfOk r (λ made. Means made expr)
-means_minus (Err e) node part expr made means is = tt
-means_minus (Ok m) node part expr made means is = record {
-  same = λ labels state small. made labels state small ∙ ap opposite_value (means.same labels state small) ∙ sym (is labels state);
+pub means_minus : (made node : Node) (part expr : Typed)
+    → Always (λ labels state. node_value labels state made ≡ opposite_value (node_value labels state node)) → Means node part
+    → ((labels : LabelValues) (state : State) → value_with labels state expr ≡ opposite_value (value_with labels state part)) → Means made expr
+means_minus made node part expr so means is = record {
+  same = λ labels state small. so labels state small ∙ ap opposite_value (means.same labels state small) ∙ sym (is labels state);
 }
 
 pub means_level : {E : Type 0} (r : Result Node E) (nodes : List Node) (parts : List Typed) (ops : List Op) (expr : Typed)
@@ -81,17 +79,15 @@ by_truth : (c x y : Valued) → choice_value (truth_of c) x y ≡ (c >>= λ a. i
 by_truth (Ok a) x y = refl
 by_truth (Err f) x y = refl
 
-pub means_if : {E : Type 0} (r : Result Node E) (c x y : Node) (condition first second expr : Typed)
-    → IfOk r (λ made. Always (λ labels state. node_value labels state made
-    ≡ choice_value (truth_of (node_value labels state c)) (node_value labels state x) (node_value labels state y)))
+pub means_if : (made c x y : Node) (condition first second expr : Typed)
+    → Always (λ labels state. node_value labels state made ≡ choice_value (truth_of (node_value labels state c)) (node_value labels state x) (node_value labels state y))
     → Means c condition → Means x first → Means y second
     → ((labels : LabelValues) (state : State) → value_with labels state expr
     ≡ (value_with labels state condition >>= λ a. if truth a then value_with labels state first else value_with labels state second))
-    → IfOk r (λ made. Means made expr)
-means_if (Err e) c x y condition first second expr made p q s is = tt
-means_if (Ok m) c x y condition first second expr made p q s is = record {
+    → Means made expr
+means_if made c x y condition first second expr so p q s is = record {
   same = λ labels state small.
-      made labels state small
+      so labels state small
       ∙ ap (λ (v : Valued). choice_value (truth_of v) (node_value labels state x) (node_value labels state y)) (p.same labels state small)
       ∙ ap₂ (λ (v w : Valued). choice_value (truth_of (value_with labels state condition)) v w) (q.same labels state small) (s.same labels state small)
       ∙ by_truth (value_with labels state condition) (value_with labels state first) (value_with labels state second)

@@ -1,6 +1,6 @@
 -- The node of a chain by what its parts make of it.
 use Rattle.std.proofs.Common.{◌≡◌, ℕ, zero, suc, ◌+◌, ◌<◌, ◌≤◌, List, [], ◌∷◌, ◌++◌, map, length, take, get_or, Bool, true, false, Ok, refl, sym, ap, ap₂, ◌∙◌, subst, arith, lt-ltb, inl, inr}
-use Rattle.std.specs.Prelude.{ℤ, ◌+ℤ◌, nat_le, Result, IfOk, Some, None, Option, IfSome, unsigned_abs, if◌then◌else◌, Err}
+use Rattle.std.specs.Prelude.{ℤ, pos, count_by, ◌+ℤ◌, nat_le, Result, IfOk, Some, None, Option, IfSome, unsigned_abs, if◌then◌else◌, Err}
 use Rattle.std.proofs.lemmas.Bool.{cases_lt, false≢true}
 use Rattle.std.proofs.lemmas.List.{take_more, take_all, map-append}
 use Rattle.smc_num.specs.Fraction.{Fraction, IsFrac, limit}
@@ -23,7 +23,7 @@ use Rattle.guard_code.specs.Nodes.{node_value}
 use Rattle.guard_code.specs.Means.{Always, Joins, IsWhole}
 use Rattle.guard_code.specs.Joins.{FoldsTo, CallsTo, IsCompared, IsComparisonOf, IsTestOf, IsCalculated, IsCalculationOf, IsQuotient, IsDecided, IsJunctionOf, AreTests, stored_parts}
 use Rattle.guard_code.proofs.WholeLemmas.{stored_as_whole, whole_again, literal_again}
-use Rattle.guard_code.proofs.NodeLemmas.{value-lit, value-number, value-shifted, value-plain, value-every, value-any, value-arithmetic, value-extreme, value-remainder, value-quotient, value-plain_if, value-if}
+use Rattle.guard_code.proofs.NodeLemmas.{value-lit, value-number, value-shifted, value-plain, value-every, value-any, value-arithmetic, value-extreme, value-remainder, value-quotient, value-plain_if, value-count, value-if}
 use Rattle.guard_code.proofs.KindLemmas.{junction_every, junction_any}
 
 pub joins_compared : (node : Node) (op : Op) (parts : List Node) (ops : List Op) → IsCompared op parts ops → IsComparisonOf node op parts → Joins node parts ops
@@ -117,6 +117,10 @@ whole_of_remainder node parts is =
 pub whole_of_plain_if : (node : Node) (test : Test) (a b : ℤ) → node ≡ n.PlainIf test a b → IsWhole node
 whole_of_plain_if node test a b is =
     subst IsWhole (sym is) (record { same = λ labels state small. again (node_value labels state (n.PlainIf test a b)) (Ok (if test_holds state test then a else b)) (value-plain_if labels state test a b) })
+
+pub whole_of_count : (node : Node) (tests : List Test) → node ≡ n.Count tests → IsWhole node
+whole_of_count node tests is =
+    subst IsWhole (sym is) (record { same = λ labels state small. again (node_value labels state (n.Count tests)) (Ok (pos (count_by (test_holds state) tests))) (value-count labels state tests) })
 
 choice_again : (t : TruthResult) (x y : Valued) → x ≡ as_whole (stored_of x) → y ≡ as_whole (stored_of y) → choice_value t x y ≡ as_whole (stored_of (choice_value t x y))
 unfolding as_whole

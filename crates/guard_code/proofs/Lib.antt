@@ -6,6 +6,7 @@ pub mod ExtremeLemmas
 pub mod KindLemmas
 pub mod JoinLemmas
 pub mod SumLemmas
+pub mod CountLemmas
 pub mod FormLemmas
 pub mod CompileLemmas
 pub mod GuardLemmas

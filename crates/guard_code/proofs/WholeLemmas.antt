@@ -144,6 +144,10 @@ pub truth_again : (r : TruthResult) → as_truth (truth_of (as_truth r)) ≡ as_
 truth_again (Ok b) = refl
 truth_again (Err f) = refl
 
+pub truth_as_truth : (r : TruthResult) → truth_of (as_truth r) ≡ r
+truth_as_truth (Ok b) = refl
+truth_as_truth (Err f) = refl
+
 -- a literal of denominator 1
 pub literal_again : (x : Fraction) → x.den ≡ 1 → nat_lt (unsigned_abs x.num) limit ≡ true → as_whole (Ok x.num) ≡ Ok (v.Num x)
 unfolding as_whole

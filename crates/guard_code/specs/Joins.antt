@@ -1,5 +1,5 @@
 -- What the parts of a chain make of it: a comparison, arithmetic, `&` or `|`, plain tests, or a literal.
-use Rattle.std.specs.Prelude.{◌≡◌, List, map, Bool, Ok}
+use Rattle.std.specs.Prelude.{◌≡◌, List, map, count_by, Bool, Ok, pos, if◌then◌else◌}
 use Rattle.chain_model.specs.declared.values.LabelValues.{LabelValues}
 use Rattle.chain_model.specs.declared.values.Value.{Value}
 use Rattle.chain_model.specs.declared.values.Value.TheVariants as v
@@ -47,6 +47,17 @@ pub record IsCalculated (parts : List Node) (ops : List Op) : Type 0 where
 -- a node is such a chain
 pub record IsCalculationOf (node : Node) (parts : List Node) (ops : List Op) : Type 0 where
   pub same : Always (λ labels state. node_value labels state node ≡ as_whole (wholes_result (stored_parts labels state parts) ops))
+
+-- a part is 1 where a test holds and else 0, and so are several, one for one
+pub record IsCounted (test : Test) (part : Node) : Type 0 where
+  pub same : (labels : LabelValues) (state : State) → stored_of (node_value labels state part) ≡ Ok (if test_holds state test then pos 1 else pos 0)
+
+pub record AreCounted (tests : List Test) (parts : List Node) : Type 0 where
+  pub same : (labels : LabelValues) (state : State) → stored_parts labels state parts ≡ map (λ test. Ok (if test_holds state test then pos 1 else pos 0)) tests
+
+-- a chain of whole numbers gives how many of some tests hold
+pub record IsCountOf (tests : List Test) (parts : List Node) (ops : List Op) : Type 0 where
+  pub same : (labels : LabelValues) (state : State) → wholes_result (stored_parts labels state parts) ops ≡ Ok (pos (count_by (test_holds state) tests))
 
 -- a chain is a whole number over another
 pub record IsQuotient (parts : List Node) (ops : List Op) : Type 0 where

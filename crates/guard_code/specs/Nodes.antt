@@ -1,6 +1,6 @@
 -- What compiled nodes give in a state.
 use Rattle.std.specs.Prelude.{pos, neg_ℤ, ◌+ℤ◌, map, not, Ok, if◌then◌else◌}
-use Rattle.std.specs.List.{list_all, list_any}
+use Rattle.std.specs.List.{list_all, list_any, count_by}
 use Rattle.smc_num.specs.Fraction.{fraction_of}
 use Rattle.chain_model.specs.declared.values.Value.TheVariants as v
 use Rattle.chain_model.specs.declared.values.LabelValues.{LabelValues}
@@ -23,6 +23,7 @@ node_step labels state (n.Plain test) = Ok (v.Bool (test_holds state test))
 node_step labels state (n.PlainIf test first second) = as_whole (Ok (if test_holds state test then first else second))
 node_step labels state (n.Every tests) = Ok (v.Bool (list_all (test_holds state) tests))
 node_step labels state (n.Any tests) = Ok (v.Bool (list_any (test_holds state) tests))
+node_step labels state (n.Count tests) = as_whole (Ok (pos (count_by (test_holds state) tests)))
 node_step labels state (n.Compare op parts) = as_truth (compare_result op (map stored_of parts))
 node_step labels state (n.Arithmetic parts ops) = as_whole (wholes_result (map stored_of parts) ops)
 node_step labels state (n.Extreme func parts) = as_whole (extreme_result func (map stored_of parts))

@@ -16,6 +16,11 @@ is_arithmetic o.Sub = true
 is_arithmetic o.Mul = true
 is_arithmetic _ = false
 
+-- `+`
+abbrev pub is_sum : Op → Bool
+is_sum o.Add = true
+is_sum _ = false
+
 -- `=`, `!=`, `<`, `<=`, `>` and `>=`
 abbrev pub is_comparison : Op → Bool
 is_comparison o.Eq = true

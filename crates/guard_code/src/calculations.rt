@@ -9,6 +9,7 @@ ghost use Rattle.guard_code.specs.Nodes.{node_value};
 ghost use Rattle.guard_code.specs.Shapes.{side_value};
 ghost use Rattle.guard_code.specs.Joins.{IsCalculationOf};
 
+use crate::counts::tests_of_count;
 use crate::nodes::Node;
 use crate::shapes::{Side, side_of};
 use chain_model::Op;
@@ -16,7 +17,7 @@ use sqlite_items::Items;
 use std::alloc::{AllocError, Global};
 
 /// A variable and a whole number, added.
-#[derive(Clone, Copy, Debug)]
+#[derive(Clone, Copy)]
 pub struct Shift {
     variable: u32,
     by: i64,
@@ -97,16 +98,26 @@ fn shift_of(parts: &[Node], ops: &[Op]) -> Option<Node>
     }
 }
 
+/// The node of a chain of whole numbers, by its parts or by the tests that it counts.
+#[tactic(auto, using(crate::proofs::SumLemmas::is_calculation, crate::proofs::CountLemmas::is_count))]
+fn sum_of_parts(alloc: Global, parts: Items<Node>, ops: &[Op]) -> Result<Node, AllocError>
+    ensures { IfOk result (λ node. IsCalculationOf node parts ops.now) }
+{
+    match tests_of_count(alloc, parts.as_slice(), ops)? {
+        Some(tests) => Ok(Node::Count(tests)),
+        None => {
+            let operators = Items::from_slice(alloc, ops)?;
+            Ok(Node::Arithmetic(parts, operators))
+        }
+    }
+}
+
 /// The node of a chain of whole numbers.
-#[tactic(auto, using(crate::proofs::SumLemmas::is_calculation))]
 pub fn calculation(alloc: Global, parts: Items<Node>, ops: &[Op]) -> Result<Node, AllocError>
     ensures { IfOk result (λ node. IsCalculationOf node parts ops.now) }
 {
     match shift_of(parts.as_slice(), ops) {
         Some(node) => Ok(node),
-        None => {
-            let operators = Items::from_slice(alloc, ops)?;
-            Ok(Node::Arithmetic(parts, operators))
-        }
+        None => sum_of_parts(alloc, parts, ops),
     }
 }

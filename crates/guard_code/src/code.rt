@@ -3,13 +3,13 @@
 ghost use Rattle.std.specs.Prelude.{◌≡◌, ◌∷◌, [], map, flat_map, IfOk, OnOk};
 ghost use Rattle.chain_model.specs.States.{State, initial_of};
 ghost use Rattle.guard_code.specs.Tests.{IsSmall};
-ghost use Rattle.guard_code.specs.Means.{Adds, AllMean};
+ghost use Rattle.guard_code.specs.Means.{Adds, AllMean, Means};
 ghost use Rattle.guard_code.specs.Guards.{told_act, told_command};
 ghost use Rattle.guard_code.specs.Codes.{branch_expressions, command_expressions, model_expressions, IsCode};
 
 use crate::compiling::node_of;
 use crate::nodes::Node;
-use chain_model::{Act, Action, Arm, Job, Typed, initial};
+use chain_model::{Act, Action, Arm, Chain, Job, Path, Typed, initial};
 use sqlite_items::Items;
 use std::alloc::{AllocError, Global};
 
@@ -112,16 +112,61 @@ fn takes_of(alloc: Global, actions: &[Action]) -> Result<Items<Items<u32>>, Allo
     Ok(takes)
 }
 
+/// The state formulas of a path, compiled.
+#[derive(Drop)]
+struct Formulas {
+    first: Node,
+    second: Node,
+}
+
+/// The nodes of the state formulas of a path.
+fn formulas_of(alloc: Global, path: &Path) -> Result<Formulas, AllocError>
+    ensures first { IfOk result (λ made. Means made.first path.now.first) }
+    ensures second { IfOk result (λ made. Means made.second path.now.second) }
+{
+    let first = node_of(alloc, &path.first)?;
+    let second = node_of(alloc, &path.second)?;
+    Ok(Formulas { first, second })
+}
+
+/// What the built-in labels need of a chain: its commands, the modules that take part in each action, and the initial
+/// state.
+#[derive(Drop)]
+struct LabelParts {
+    commands: Items<Command>,
+    takes: Items<Items<u32>>,
+    initial: Items<i64>,
+}
+
+/// What the built-in labels need of a chain.
+fn label_parts(alloc: Global, chain: &Chain) -> Result<LabelParts, AllocError>
+    ensures commands { IfOk result (λ made. (state : State) → IsSmall state → map (told_command state) made.commands ≡ map (told_act state) chain.now.commands) }
+    ensures takes { IfOk result (λ made. made.takes ≡ map (λ action. action.takes) chain.now.actions) }
+    ensures initial { IfOk result (λ made. made.initial ≡ initial_of chain.now) }
+{
+    let initial = Items::from_vec(initial(alloc, chain)?);
+    let takes = takes_of(alloc, chain.actions.as_slice())?;
+    let commands = commands_of(alloc, chain.commands.as_slice())?;
+    Ok(LabelParts {
+        commands,
+        takes,
+        initial,
+    })
+}
+
 /// The code of a job.
 pub fn compile(alloc: Global, job: &Job) -> Result<Code, AllocError>
     ensures { IfOk result (λ code. IsCode job.now code) }
 {
+    let nodes = expression_nodes(alloc, job)?;
+    let parts = label_parts(alloc, &job.chain)?;
+    let formulas = formulas_of(alloc, &job.path)?;
     Ok(Code {
-        nodes: expression_nodes(alloc, job)?,
-        first: node_of(alloc, &job.path.first)?,
-        second: node_of(alloc, &job.path.second)?,
-        commands: commands_of(alloc, job.chain.commands.as_slice())?,
-        takes: takes_of(alloc, job.chain.actions.as_slice())?,
-        initial: Items::from_vec(initial(alloc, &job.chain)?),
+        nodes,
+        first: formulas.first,
+        second: formulas.second,
+        commands: parts.commands,
+        takes: parts.takes,
+        initial: parts.initial,
     })
 }

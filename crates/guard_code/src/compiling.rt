@@ -52,35 +52,14 @@ fn plain_conditional(condition: &Node, first: &Node, second: &Node) -> Option<No
     }
 }
 
-/// The node of a conditional that holds its parts.
-fn boxed_conditional(
-    alloc: Global,
-    condition: Node,
-    first: Node,
-    second: Node,
-) -> Result<Node, AllocError>
-    ensures { IfOk result (λ made. Always (λ labels state. node_value labels state made
-        ≡ choice_value (truth_of (node_value labels state condition)) (node_value labels state first) (node_value labels state second))) }
-{
-    let condition = Boxed::new(alloc, condition)?;
-    let first = Boxed::new(alloc, first)?;
-    let second = Boxed::new(alloc, second)?;
-    Ok(Node::If(condition, first, second))
-}
-
 /// A conditional.
-fn conditional(
-    alloc: Global,
-    condition: Node,
-    first: Node,
-    second: Node,
-) -> Result<Node, AllocError>
-    ensures { IfOk result (λ made. Always (λ labels state. node_value labels state made
-        ≡ choice_value (truth_of (node_value labels state condition)) (node_value labels state first) (node_value labels state second))) }
+fn conditional(condition: Boxed<Node>, first: Boxed<Node>, second: Boxed<Node>) -> Node
+    ensures { Always (λ labels state. node_value labels state result
+        ≡ choice_value (truth_of (node_value labels state condition)) (node_value labels state first) (node_value labels state second)) }
 {
-    match plain_conditional(&condition, &first, &second) {
-        Some(made) => Ok(made),
-        None => boxed_conditional(alloc, condition, first, second),
+    match plain_conditional(condition.get(), first.get(), second.get()) {
+        Some(made) => made,
+        None => Node::If(condition, first, second),
     }
 }
 
@@ -97,26 +76,35 @@ pub fn node_of(alloc: Global, expr: &Typed) -> Result<Node, AllocError>
             Ok(call_node(*func, arguments))
         }
         Form::Not(part) => {
-            let denied = node_of(alloc, part.get())?;
-            negation_node(alloc, denied)
+            let denied = boxed_node(alloc, part.get())?;
+            Ok(negation_node(denied))
         }
         Form::Minus(part) => {
-            let number = node_of(alloc, part.get())?;
-            minus_node(alloc, number)
+            let number = boxed_node(alloc, part.get())?;
+            Ok(minus_node(number))
         }
         Form::Level(parts, ops) => {
             let operands = nodes_of(alloc, parts.as_slice())?;
             chain_node(alloc, operands, ops.as_slice())
         }
         Form::If(condition, first, second) => {
-            let condition = node_of(alloc, condition.get())?;
-            let first = node_of(alloc, first.get())?;
-            let second = node_of(alloc, second.get())?;
-            conditional(alloc, condition, first, second)
+            let condition = boxed_node(alloc, condition.get())?;
+            let first = boxed_node(alloc, first.get())?;
+            let second = boxed_node(alloc, second.get())?;
+            Ok(conditional(condition, first, second))
         }
         Form::IsInit => Ok(Node::IsInit),
         Form::IsDeadlock => Ok(Node::IsDeadlock),
     }
+}
+
+/// The node of an expression, as a part of another node.
+#[cycle(compiling)]
+fn boxed_node(alloc: Global, expr: &Typed) -> Result<Boxed<Node>, AllocError>
+    ensures { IfOk result (λ node. Means node expr.now) }
+{
+    let node = node_of(alloc, expr)?;
+    Boxed::new(alloc, node)
 }
 
 /// The nodes of expressions, one for one.

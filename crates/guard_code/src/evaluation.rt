@@ -10,7 +10,7 @@ use crate::chains::{arithmetic, compare, junction, level, quotient};
 use crate::fronts::{stored_in, truth_in};
 use crate::labels::BuiltInLabels;
 use crate::nodes::Node;
-use crate::plain_tests::{all_hold, number_by, number_in, some_holds, test_holds};
+use crate::plain_tests::{all_hold, count_holding, number_by, number_in, some_holds, test_holds};
 use crate::results::{
     as_truth, as_whole, shifted_value, stored_of, stored_truth, stored_whole, truth_of,
 };
@@ -32,6 +32,7 @@ pub fn value<L: BuiltInLabels>(labels: &L, state: &[i64], node: &Node) -> Result
         }
         Node::Every(tests) => Ok(Value::Bool(all_hold(state, tests.as_slice()))),
         Node::Any(tests) => Ok(Value::Bool(some_holds(state, tests.as_slice()))),
+        Node::Count(tests) => as_whole(Ok(count_holding(state, tests.as_slice()))),
         Node::Compare(op, parts) => as_truth(compare(labels, state, *op, parts.as_slice())),
         Node::Arithmetic(parts, ops) => as_whole(arithmetic(
             labels,

@@ -8,7 +8,7 @@ use crate::chains::{arithmetic, compare};
 use crate::evaluation::{compound_number, compound_truth};
 use crate::labels::BuiltInLabels;
 use crate::nodes::Node;
-use crate::plain_tests::{all_hold, number_by, number_in, some_holds, test_holds};
+use crate::plain_tests::{all_hold, count_holding, number_by, number_in, some_holds, test_holds};
 use crate::results::{shifted_stored, stored, stored_truth, stored_whole};
 use chain_model::TraceFault;
 use chain_values::truth;
@@ -51,6 +51,7 @@ pub fn stored_in<L: BuiltInLabels>(
         Node::PlainIf(test, first, second) => {
             stored_whole(Ok(number_by(state, test, *first, *second)))
         }
+        Node::Count(tests) => stored_whole(Ok(count_holding(state, tests.as_slice()))),
         Node::Arithmetic(parts, ops) => stored_whole(arithmetic(
             labels,
             state,

@@ -4,10 +4,10 @@ ghost use Rattle.std.specs.Prelude.{◌≡◌, IsTrue, All, Ok};
 ghost use Rattle.guard_code.specs.Wholes.{as_whole, stored_of};
 ghost use Rattle.std.specs.List.{list_all};
 ghost use Rattle.guard_code.specs.Means.{IsWhole, IsTruth, IsFixed};
-ghost use Rattle.guard_code.specs.Shapes.{is_arithmetic, is_junction};
+ghost use Rattle.guard_code.specs.Shapes.{is_arithmetic, is_sum, is_junction};
 
 use crate::nodes::Node;
-use crate::shapes::{is_arithmetic, is_junction};
+use crate::shapes::{is_arithmetic, is_junction, is_sum};
 use chain_model::{Op, Value};
 
 /// Whether a value is a whole number.
@@ -31,6 +31,7 @@ fn is_whole(node: &Node) -> bool
         Node::Extreme(_func, _parts) => true,
         Node::Remainder(_parts) => true,
         Node::PlainIf(_test, _first, _second) => true,
+        Node::Count(_tests) => true,
         Node::Lit(value) => is_whole_literal(value),
         Node::If(_condition, first, second) => {
             if is_whole(first.get()) {
@@ -113,6 +114,13 @@ pub fn all_arithmetic(ops: &[Op]) -> bool
     ensures { result ≡ list_all is_arithmetic ops.now }
 {
     ops.iter().all(|op| is_arithmetic(*op))
+}
+
+/// Whether all operators are `+`.
+pub fn all_sums(ops: &[Op]) -> bool
+    ensures { result ≡ list_all is_sum ops.now }
+{
+    ops.iter().all(|op| is_sum(*op))
 }
 
 /// Whether all operators are the one that parts of this truth value decide.

@@ -7,6 +7,7 @@ mod calls;
 mod chains;
 mod code;
 mod compiling;
+mod counts;
 mod evaluation;
 mod fronts;
 mod guards;

@@ -18,6 +18,8 @@ pub enum Node {
     Every(Items<Test>),
     /// Tests of which some holds.
     Any(Items<Test>),
+    /// A whole number: how many of these tests hold.
+    Count(Items<Test>),
     /// A comparison of two whole numbers.
     Compare(Op, Items<Node>),
     /// A chain of `+`, `-` and `*` of whole numbers.

@@ -1,7 +1,7 @@
 //! Plain tests of variables.
 
-ghost use Rattle.std.specs.Prelude.{◌≡◌, if◌then◌else◌};
-ghost use Rattle.std.specs.List.{list_all, list_any};
+ghost use Rattle.std.specs.Prelude.{◌≡◌, pos, if◌then◌else◌};
+ghost use Rattle.std.specs.List.{list_all, list_any, count_by};
 ghost use Rattle.guard_code.specs.Tests.{number_in, test_holds};
 
 /// A test of one variable or of two, each by its number.
@@ -86,4 +86,16 @@ pub fn some_holds(state: &[i64], tests: &[Test]) -> bool
         }
     }
     false
+}
+
+/// How many of some tests hold in a state.
+#[inline(always)]
+pub fn count_holding(state: &[i64], tests: &[Test]) -> i64
+    ensures { result ≡ pos (count_by (test_holds state.now) tests.now) }
+{
+    let mut count = 0;
+    for test in tests {
+        count += i64::from(test_holds(state, test));
+    }
+    count
 }

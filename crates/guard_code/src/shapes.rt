@@ -6,7 +6,7 @@ ghost use Rattle.guard_code.specs.Tests.{IsSmall, test_holds};
 ghost use Rattle.guard_code.specs.Wholes.{compares, stored_of};
 ghost use Rattle.guard_code.specs.Nodes.{node_value};
 ghost use Rattle.guard_code.specs.Means.{Always};
-ghost use Rattle.guard_code.specs.Shapes.{is_arithmetic, is_comparison, is_junction, side_value};
+ghost use Rattle.guard_code.specs.Shapes.{is_arithmetic, is_sum, is_comparison, is_junction, side_value};
 
 use crate::nodes::Node;
 use crate::plain_tests::Test;
@@ -16,7 +16,7 @@ use chain_model::{Op, Value};
 const LIMIT: i64 = 1 << 62;
 
 /// A side of a comparison that is a variable or a whole number.
-#[derive(Clone, Copy, Debug)]
+#[derive(Clone, Copy)]
 pub enum Side {
     Variable(u32),
     Constant(i64),
@@ -28,6 +28,16 @@ pub fn is_arithmetic(op: Op) -> bool
 {
     match op {
         Op::Add | Op::Sub | Op::Mul => true,
+        _ => false,
+    }
+}
+
+/// Whether an operator is `+`.
+pub fn is_sum(op: Op) -> bool
+    ensures { result ≡ is_sum op }
+{
+    match op {
+        Op::Add => true,
         _ => false,
     }
 }

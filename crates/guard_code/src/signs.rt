@@ -1,6 +1,6 @@
 //! The nodes of `!` and unary `-`.
 
-ghost use Rattle.std.specs.Prelude.{◌≡◌, not, IfOk, IfSome};
+ghost use Rattle.std.specs.Prelude.{◌≡◌, not, IfSome};
 ghost use Rattle.chain_model.specs.States.{State};
 ghost use Rattle.guard_code.specs.Tests.{test_holds};
 ghost use Rattle.guard_code.specs.Nodes.{node_value};
@@ -11,7 +11,6 @@ use crate::plain_tests::Test;
 use chain_model::Value;
 use chain_values::{opposite, truth};
 use sqlite_items::Boxed;
-use std::alloc::{AllocError, Global};
 
 /// The test that holds where another does not.
 fn contrary(test: Test) -> Option<Test>
@@ -48,12 +47,12 @@ fn plain_negation(node: &Node) -> Option<Node>
 }
 
 /// The node of `!`.
-pub fn negation_node(alloc: Global, node: Node) -> Result<Node, AllocError>
-    ensures { IfOk result (λ made. Always (λ labels state. node_value labels state made ≡ negation (node_value labels state node))) }
+pub fn negation_node(part: Boxed<Node>) -> Node
+    ensures { Always (λ labels state. node_value labels state result ≡ negation (node_value labels state part)) }
 {
-    match plain_negation(&node) {
-        Some(made) => Ok(made),
-        None => Ok(Node::Not(Boxed::new(alloc, node)?)),
+    match plain_negation(part.get()) {
+        Some(made) => made,
+        None => Node::Not(part),
     }
 }
 
@@ -71,11 +70,11 @@ fn opposite_literal(node: &Node) -> Option<Node>
 }
 
 /// The node of unary `-`.
-pub fn minus_node(alloc: Global, node: Node) -> Result<Node, AllocError>
-    ensures { IfOk result (λ made. Always (λ labels state. node_value labels state made ≡ opposite_value (node_value labels state node))) }
+pub fn minus_node(part: Boxed<Node>) -> Node
+    ensures { Always (λ labels state. node_value labels state result ≡ opposite_value (node_value labels state part)) }
 {
-    match opposite_literal(&node) {
-        Some(made) => Ok(made),
-        None => Ok(Node::Minus(Boxed::new(alloc, node)?)),
+    match opposite_literal(part.get()) {
+        Some(made) => made,
+        None => Node::Minus(part),
     }
 }

@@ -3,11 +3,34 @@
 use crate::agreement::{Gives, MOST, Row, ZERO_DIVISOR, agrees};
 use crate::fixtures::{ADD, AND, DIV, EQ, GE, GT, IMP, LE, LT, MUL, NE, OR, Piece, SUB};
 use Gives::Truth;
-use Piece::{B, Chain, N, Not, Q, T, X};
+use Piece::{B, Chain, If, N, Not, Q, T, X};
 use chain_model::Op;
 use std::test::Fail;
 
-static TABLE: [Row; 44] = [
+/// Two of three tests hold.
+const TWO_OF_THREE: &[Piece] = &[
+    X(0),
+    X(1),
+    EQ,
+    N(1),
+    N(0),
+    If,
+    X(1),
+    N(2),
+    LE,
+    N(1),
+    N(0),
+    If,
+    B(2),
+    N(1),
+    N(0),
+    If,
+    Chain(&[Op::Add, Op::Add]),
+    N(2),
+    EQ,
+];
+
+static TABLE: [Row; 48] = [
     (&[X(0), N(3), EQ], [3, 2, 1], Truth(true)),
     (&[X(0), N(3), EQ], [2, 2, 1], Truth(false)),
     (&[N(3), X(0), EQ], [3, 2, 1], Truth(true)),
@@ -86,6 +109,10 @@ static TABLE: [Row; 44] = [
         [3, 2, 1],
         Truth(false),
     ),
+    (TWO_OF_THREE, [2, 2, 0], Truth(true)),
+    (TWO_OF_THREE, [2, 2, 1], Truth(false)),
+    (TWO_OF_THREE, [3, 2, 1], Truth(true)),
+    (TWO_OF_THREE, [3, 3, 1], Truth(true)),
     (&[X(0), N(1), ADD, X(1), LT], [1, 3, 1], Truth(true)),
     (&[X(0), N(1), ADD, X(1), LT], [2, 3, 1], Truth(false)),
 ];

@@ -2,7 +2,7 @@
 use Rattle.std.proofs.Common.{◌≡◌, refl, subst, rules}
 use Rattle.guard_code.specs.declared.nodes.Node.TheVariants as n
 use Rattle.guard_code.specs.Means.{IsWhole}
-use Rattle.guard_code.proofs.JoinLemmas.{whole_of_number, whole_of_shifted, whole_of_arithmetic, whole_of_extreme, whole_of_literal, whole_of_remainder, whole_of_plain_if, whole_of_if}
+use Rattle.guard_code.proofs.JoinLemmas.{whole_of_number, whole_of_shifted, whole_of_arithmetic, whole_of_extreme, whole_of_literal, whole_of_remainder, whole_of_plain_if, whole_of_count, whole_of_if}
 use Rattle.guard_code.proofs.kinds.+is_whole.Goals as goal
 
 pub returns-in-Number : goal.returns-in-Number
@@ -39,6 +39,11 @@ pub returns-in-PlainIf : goal.returns-in-PlainIf
 returns-in-PlainIf t c = λ holds.
     let is : c.args.node.now ≡ n.PlainIf c.in-PlainIf._test c.in-PlainIf._first c.in-PlainIf._second = search rules in
     whole_of_plain_if c.args.node.now c.in-PlainIf._test c.in-PlainIf._first c.in-PlainIf._second is
+
+pub returns-in-Count : goal.returns-in-Count
+returns-in-Count t c = λ holds.
+    let is : c.args.node.now ≡ n.Count c.in-Count._tests = search rules in
+    whole_of_count c.args.node.now c.in-Count._tests is
 
 pub returns-then-is_whole : goal.returns-then-is_whole
 returns-then-is_whole t c = λ holds.
