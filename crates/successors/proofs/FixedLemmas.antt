@@ -38,7 +38,7 @@ first_none : (parts : ℕ) → 0 < parts → first_draw 0 parts ≡ 0
 first_none parts some = div-eq_of_lt (omega (arith, some))
 
 -- a pick is below a part where the draw is below the part's first
-picks_below : Law → (w part parts : ℕ) → 0 < parts → nat_lt (pick_of w parts) part ≡ nat_lt w (first_draw part parts)
+pub picks_below : Law → (w part parts : ℕ) → 0 < parts → nat_lt (pick_of w parts) part ≡ nat_lt w (first_draw part parts)
 picks_below law w part parts some =
     let both = law 0 part parts w some in
     elim (cases_lt (pick_of w parts) part) [
@@ -83,7 +83,7 @@ products : (a b c : ℕ) → a < b → 0 < c → a * c < b * c
 products a b c less some = let more : a * c + c ≤ b * c = grind (arith, less) in omega (arith, more, some)
 
 -- a draw picks a part that is there
-pick_within : (w den : ℕ) → w < 2 ^ 64 → 0 < den → pick_of w den < den
+pub pick_within : (w den : ℕ) → w < 2 ^ 64 → 0 < den → pick_of w den < den
 pick_within w den word some = div_below (w * den) (2 ^ 64) den (omega arith) (let less : w * den < 2 ^ 64 * den = products w (2 ^ 64) den word some in omega (arith, less))
 
 -- where the weights so far take all, the thresholds so far are enough

@@ -13,3 +13,5 @@ pub mod MoveLemmas
 pub mod SoleLemmas
 pub mod GuardLemmas
 pub mod FixedLemmas
+pub mod BranchingLemmas
+pub mod LeadLemmas

@@ -4,4 +4,7 @@ pub mod Sides
 pub mod Weighing
 pub mod Commands
 pub mod Moves
+pub mod Choosing
+pub mod Branching
+pub mod Nexts
 pub mod Steppers

@@ -46,7 +46,7 @@ fn fixed_weights(alloc: Global, nodes: &[Node]) -> Result<Option<Items<Frac>>, A
 }
 
 /// The first draw that picks a part at or above this one of so many.
-fn first_draw(part: u64, parts: u64) -> u64
+pub fn first_draw(part: u64, parts: u64) -> u64
     requires some { part < parts }
     requires few { parts ≤ 2 ^ 48 }
     ensures { result ≡ first_draw part parts }

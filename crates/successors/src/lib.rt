@@ -2,6 +2,8 @@
 #![tactic(auto)]
 
 mod assigning;
+mod branching;
+mod choosing;
 mod commands;
 mod counting;
 mod decoding;
@@ -9,16 +11,20 @@ mod first;
 mod fixed;
 mod found;
 mod guards;
+mod known;
 mod lanes;
 mod moving;
+mod next;
 mod partition;
 mod plan;
 mod sides;
 mod stepper;
 mod taking;
+mod telling;
 mod weighing;
 
 pub use moving::Moved;
+pub use next::Next;
 pub use stepper::Stepper;
 
 #[cfg(test)]

@@ -174,12 +174,12 @@ fn take_choice(
     )
 }
 
-/// Takes the command that is the choice of a step, for which nothing is drawn.
+/// Takes the commands of the choice of a step, for which nothing is drawn. After a fault the draws may stand further on.
 #[inline(always)]
-fn take_sole(
+pub fn take_only(
     plan: &Plan,
     chain: &Chain,
-    command: u32,
+    chosen: &[u32],
     room: &mut Room,
     state: &mut [i64],
     draws: &mut Draws,
@@ -188,8 +188,9 @@ fn take_sole(
     requires room { IsRoom chain.now plan.now room.old }
     requires state { IsState chain.now state.old }
     requires taken { commands_taken chain.now (draw_at draws.old.seed draws.old.trace) state.old draws.old.place
-        ≡ Ok (command ∷ [], draws.old.place) }
-    requires place { draws.old.place + 65 ≤ 2 ^ 62 }
+        ≡ Ok (chosen.now, draws.old.place) }
+    requires long { length chosen.now ≤ length room.old.branches.items }
+    requires place { draws.old.place + length chosen.now ≤ 2 ^ 62 }
     ensures step { came result state.new draws.new.place
         ≡ next_of chain.now (draw_at draws.old.seed draws.old.trace)
         (record { state = state.old; position = draws.old.place }) }
@@ -202,7 +203,7 @@ fn take_sole(
     take_commands(
         plan.commands.as_slice(),
         chain,
-        &[command],
+        chosen,
         &mut room.branches,
         &mut room.weights,
         &mut room.next,
@@ -310,7 +311,7 @@ fn try_move(
     ensures room { IsRoom chain.now plan.now room.new }
 {
     match sole_choice(chain, found) {
-        Some(command) => match take_sole(plan, chain, command, room, state, draws) {
+        Some(command) => match take_only(plan, chain, &[command], room, state, draws) {
             Ok(()) => Ok(Moved::Taken),
             Err(fault) => Err(fault),
         },

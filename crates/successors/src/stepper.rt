@@ -1,14 +1,19 @@
 //! Steps of a trace.
 
-ghost use Rattle.std.specs.Prelude.{◌≡◌, ◌+◌, ◌<◌, ◌≤◌, ◌^◌, ◌↔◌, [], IfOk, OnErr, Ok};
+ghost use Rattle.std.specs.Prelude.{◌≡◌, ◌+◌, ◌<◌, ◌≤◌, ◌^◌, ◌↔◌, [], IfOk, IfSome, OnErr, Ok, length, take};
 ghost use Rattle.trace_streams.specs.Draws.{draw_at};
 ghost use Rattle.chain_model.specs.States.{IsState};
 ghost use Rattle.chain_model.specs.Choices.{choices_of};
 
+use crate::choosing::write_only;
 use crate::found::Found;
 use crate::guards::fill;
+use crate::known::take_known;
 use crate::moving::{Moved, make_move};
+use crate::next::Next;
 use crate::plan::{Plan, Room, plan_of, room_for};
+use crate::telling::next_by;
+use chain_model::limits::MOST_MODULES;
 use chain_model::{Job, TraceFault};
 use std::alloc::{AllocError, Global};
 use trace_streams::Draws;
@@ -25,6 +30,8 @@ impl Stepper {
     ghost use Rattle.successors.specs.Enabled.{AreGuards};
     ghost use Rattle.successors.specs.Steppers.{IsStepperOf};
     ghost use Rattle.successors.specs.Moves.{next_of, came};
+    ghost use Rattle.successors.specs.Choosing.{IsOnlyChoice};
+    ghost use Rattle.successors.specs.Nexts.{IsNext};
 
     /// The stepper of a job.
     pub fn new(alloc: Global, job: &Job) -> Result<Stepper, AllocError>
@@ -34,6 +41,95 @@ impl Stepper {
         let bytes = vec![in alloc; 0; job.chain.commands.len()]?;
         let room = room_for(alloc, &job.chain, &plan)?;
         Ok(Stepper { plan, bytes, room })
+    }
+
+    /// What a state's next states are, as far as one draw at most tells them apart. They are written into `first` and
+    /// `second`.
+    pub fn next_states(
+        &mut self,
+        job: &Job,
+        state: &[i64],
+        first: &mut [i64],
+        second: &mut [i64],
+    ) -> Next
+        requires stepper { IsStepperOf job.now self.old }
+        requires state { IsState job.now.chain state.now }
+        requires first { length first.old ≡ length state.now }
+        requires second { length second.old ≡ length state.now }
+        ensures next { IsNext job.now.chain state.now result first.new second.new }
+        ensures stepper { IsStepperOf job.now self.new }
+    {
+        match fill(
+            &job.chain,
+            self.plan.guards.as_slice(),
+            state,
+            &mut self.bytes,
+        ) {
+            Ok(_) => next_by(
+                &self.plan,
+                &job.chain,
+                &self.bytes,
+                &mut self.room,
+                state,
+                first,
+                second,
+            ),
+            Err(_) => Next::Untold,
+        }
+    }
+
+    /// How many commands the one choice of a state has, where it has one, and room for them is given. They are written into
+    /// `chosen`.
+    pub fn sole_choice(&mut self, job: &Job, state: &[i64], chosen: &mut [u32]) -> Option<usize>
+        requires stepper { IsStepperOf job.now self.old }
+        requires state { IsState job.now.chain state.now }
+        ensures choice { IfSome result (λ size. IsOnlyChoice job.now.chain state.now (take size chosen.new)) }
+        ensures within { IfSome result (λ size. size ≤ length chosen.new) }
+        ensures stepper { IsStepperOf job.now self.new }
+    {
+        match fill(
+            &job.chain,
+            self.plan.guards.as_slice(),
+            state,
+            &mut self.bytes,
+        ) {
+            Ok(_) => write_only(
+                &self.plan,
+                &job.chain,
+                state,
+                &self.bytes,
+                &mut self.room,
+                chosen,
+            ),
+            Err(_) => None,
+        }
+    }
+
+    /// A step from a state whose one choice these commands are: no guard is evaluated. After a fault the state and the
+    /// draws are as they were.
+    pub fn take_known(
+        &mut self,
+        job: &Job,
+        chosen: &[u32],
+        state: &mut [i64],
+        draws: &mut Draws,
+    ) -> Result<(), TraceFault>
+        requires stepper { IsStepperOf job.now self.old }
+        requires state { IsState job.now.chain state.old }
+        requires only { IsOnlyChoice job.now.chain state.old chosen.now }
+        requires place { draws.old.place + 65 ≤ 2 ^ 62 }
+        ensures step { came result state.new draws.new.place
+            ≡ next_of job.now.chain (draw_at draws.old.seed draws.old.trace)
+            (record { state = state.old; position = draws.old.place }) }
+        ensures keeps { IsState job.now.chain state.new }
+        ensures stepper { IsStepperOf job.now self.new }
+        ensures stream { draws.new ≡ record draws.old { place = draws.new.place } }
+        ensures stays { OnErr result ((state.new ≡ state.old) × (draws.new ≡ draws.old)) }
+    {
+        if chosen.len() > self.room.branches.len() || chosen.len() > MOST_MODULES {
+            return self.step(job, state, draws);
+        }
+        take_known(&self.plan, &job.chain, chosen, &mut self.room, state, draws)
     }
 
     /// A step from a state, and whether a choice was taken. After a fault the state and the draws are as they were.

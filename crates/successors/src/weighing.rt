@@ -60,7 +60,7 @@ fn weight(state: &[i64], command: u32, node: &Node) -> Result<Frac, TraceFault>
 }
 
 /// Writes the weights that nodes give, from left to right.
-fn write_weights(
+pub fn write_weights(
     state: &[i64],
     command: u32,
     nodes: &[Node],
@@ -99,7 +99,7 @@ fn part(weight: Frac) -> u64
 
 /// The numerator of the first of two weights that have one denominator and add up to 1, and the denominator.
 #[inline(always)]
-fn share_of(weights: &[Frac]) -> Option<(u64, u64)>
+pub fn share_of(weights: &[Frac]) -> Option<(u64, u64)>
     requires { All IsWeight weights.now }
     ensures { IfSome result (λ share. IsShare weights.now share.0 share.1) }
 {

@@ -1,10 +1,10 @@
--- A step is what follows the one command of its choice.
-use Rattle.std.proofs.Common.{[], ◌∷◌, refl}
+-- A step is what follows the commands of its choice.
+use Rattle.std.proofs.Common.{refl}
 use Rattle.guard_code.proofs.RunLemmas.{small_state}
 use Rattle.trace_streams.specs.Draws.{draw_at}
 use Rattle.successors.specs.Moves.{came}
 use Rattle.successors.proofs.MoveLemmas.{came_of_choice, keeps}
-use Rattle.successors.proofs.moving.take_sole.Goals as goal
+use Rattle.successors.proofs.moving.take_only.Goals as goal
 
 pub take_commands-requires-clause-small : goal.take_commands-requires-clause-small
 take_commands-requires-clause-small c = small_state c.args.chain.now c.args.state.now c.requires.state
@@ -12,7 +12,7 @@ take_commands-requires-clause-small c = small_state c.args.chain.now c.args.stat
 pub returns-clause-step : goal.returns-clause-step
 returns-clause-step c =
     came_of_choice c.args.chain.now (draw_at c.args.draws.now.seed c.args.draws.now.trace) (draw_at c.args.draws.now.seed c.args.draws.now.trace) c.args.state.now
-    c.args.draws.now.place c.args.draws.now.place (c.args.command ∷ []) (c.args.command ∷ []) (came c.take_commands.result c.take_commands.new.state c.take_commands.new.draws.place)
+    c.args.draws.now.place c.args.draws.now.place c.args.chosen.now c.args.chosen.now (came c.take_commands.result c.take_commands.new.state c.take_commands.new.draws.place)
     c.requires.taken refl refl c.take_commands.ensures.step
 
 pub returns-clause-keeps : goal.returns-clause-keeps
