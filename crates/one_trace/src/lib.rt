@@ -1,9 +1,14 @@
 //! Single traces: what one trace of a job says of its path formula.
 #![tactic(auto)]
 
+mod judging;
+mod known;
+mod meeting;
 mod pairs;
+mod rows;
 mod standing;
 mod trace;
+mod visits;
 mod work;
 
 pub use chain_model::Outcome;

@@ -251,3 +251,55 @@ fn a_die_is_thrown_by_the_draws_of_its_trace(rt: HostRuntime) -> Result<(), Fail
     }
     Ok(())
 }
+
+/// Whether one work gives traces the outcomes that a work of its own gives each, time after time.
+fn are_drawn_again(alloc: Global, job: &Job) -> Result<bool, AllocError> {
+    let mut work = TraceWork::new(alloc, job)?;
+    for _turn in 0..3 {
+        for trace in 0..32 {
+            if outcome(job, trace, &mut work) != outcome_of(alloc, job, trace)? {
+                return Ok(false);
+            }
+        }
+    }
+    Ok(true)
+}
+
+/// Whether that is so of a path formula over a chain that starts with 0.
+fn is_drawn_again(
+    alloc: Global,
+    commands: &[Command],
+    greatest: i64,
+    question: Question,
+) -> Result<bool, AllocError> {
+    match job(alloc, 0, greatest, commands, question)? {
+        Some(job) => are_drawn_again(alloc, &job),
+        None => Ok(false),
+    }
+}
+
+/// Path formulas over the die, in which traces come back and draw.
+static THROWN_AGAIN: [Question; 3] = [
+    (PathKind::Finally(20), TRUE, Tree::Is(9)),
+    (PathKind::Globally(7), TRUE, Tree::Below(7)),
+    (PathKind::Until(LAST), Tree::Below(8), Tree::Is(7)),
+];
+
+/// Path formulas over counts, whose traces stay at the end, or fault.
+static COUNTED_AGAIN: [Question; 3] = [
+    (PathKind::Globally(9), TRUE, Tree::Below(4)),
+    (PathKind::Finally(9), TRUE, Tree::Is(4)),
+    (PathKind::Until(9), Tree::Inverse, TRUE),
+];
+
+#[test]
+fn a_trace_is_the_same_whatever_was_drawn_before_it(rt: HostRuntime) -> Result<(), Fail> {
+    for question in &THROWN_AGAIN {
+        assert!(rt; is_drawn_again(rt.alloc(), &DIE, 12, *question)?);
+    }
+    for question in &COUNTED_AGAIN {
+        assert!(rt; is_drawn_again(rt.alloc(), &UP_TO_THREE, 3, *question)?);
+        assert!(rt; is_drawn_again(rt.alloc(), &PAST_THREE, 3, *question)?);
+    }
+    Ok(())
+}

@@ -1,9 +1,15 @@
 //! The memory that drawing traces takes.
 
-ghost use Rattle.std.specs.Prelude.{IfOk};
+ghost use Rattle.std.specs.Prelude.{◌≡◌, Some, IfOk, IfSome, slice_get};
+ghost use Rattle.chain_model.specs.declared.job.Job.{Job};
+ghost use Rattle.chain_model.specs.States.{IsState, initial_of};
+ghost use Rattle.guard_code.specs.Codes.{IsCode};
+ghost use Rattle.successors.specs.Steppers.{IsStepperOf};
+ghost use Rattle.one_trace.specs.Known.{IsKnown};
 ghost use Rattle.one_trace.specs.Work.{IsMadeFor};
 
-use chain_model::{Job, initial};
+use crate::known::Known;
+use chain_model::{Chain, Job, initial};
 use guard_code::{Code, compile};
 use std::alloc::{AllocError, Global};
 use successors::Stepper;
@@ -13,8 +19,43 @@ use successors::Stepper;
 pub struct TraceWork {
     pub(crate) code: Code,
     pub(crate) stepper: Stepper,
+    pub(crate) known: Known,
     pub(crate) initial: Vec<i64>,
+    pub(crate) start: Option<u32>,
     pub(crate) state: Vec<i64>,
+    pub(crate) first: Vec<i64>,
+    pub(crate) second: Vec<i64>,
+}
+
+/// What is known before the first trace: nothing but the number of the initial state.
+fn known_at_first(alloc: Global, state: &[i64]) -> Result<(Known, Option<u32>), AllocError>
+    ensures known { IfOk result (λ made. (job : Job) → IsState job.chain state.now → IsKnown job made.0) }
+    ensures start { IfOk result (λ made. IfSome made.1 (λ number. slice_get made.0.table.states number ≡ Some state.now)) }
+{
+    let mut known = Known::new(alloc, state.len())?;
+    let start = known.number_of(state);
+    Ok((known, start))
+}
+
+/// The compiled formulas and steps of a job.
+fn compiled(alloc: Global, job: &Job) -> Result<(Code, Stepper), AllocError>
+    ensures code { IfOk result (λ made. IsCode job.now made.0) }
+    ensures stepper { IfOk result (λ made. IsStepperOf job.now made.1) }
+{
+    let code = compile(alloc, job)?;
+    let stepper = Stepper::new(alloc, job)?;
+    Ok((code, stepper))
+}
+
+/// The initial state, twice.
+fn initial_states(alloc: Global, chain: &Chain) -> Result<(Vec<i64>, Vec<i64>), AllocError>
+    ensures first { IfOk result (λ made. made.0.items ≡ initial_of chain.now) }
+    ensures state { IfOk result (λ made. IsState chain.now made.0.items) }
+    ensures second { IfOk result (λ made. made.1.items ≡ initial_of chain.now) }
+{
+    let first = initial(alloc, chain)?;
+    let second = initial(alloc, chain)?;
+    Ok((first, second))
 }
 
 impl TraceWork {
@@ -22,11 +63,19 @@ impl TraceWork {
     pub fn new(alloc: Global, job: &Job) -> Result<TraceWork, AllocError>
         ensures { IfOk result (λ work. IsMadeFor job.now work) }
     {
+        let (code, stepper) = compiled(alloc, job)?;
+        let (initial, state) = initial_states(alloc, &job.chain)?;
+        let (first, second) = initial_states(alloc, &job.chain)?;
+        let (known, start) = known_at_first(alloc, &initial)?;
         Ok(TraceWork {
-            code: compile(alloc, job)?,
-            stepper: Stepper::new(alloc, job)?,
-            initial: initial(alloc, &job.chain)?,
-            state: initial(alloc, &job.chain)?,
+            code,
+            stepper,
+            known,
+            initial,
+            start,
+            state,
+            first,
+            second,
         })
     }
 }
