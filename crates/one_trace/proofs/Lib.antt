@@ -1,6 +1,7 @@
 mod NumberLemmas
 mod RowLemmas
 mod KnownLemmas
+mod SoleLemmas
 mod StandingLemmas
 mod UnderwayLemmas
 mod StayingLemmas

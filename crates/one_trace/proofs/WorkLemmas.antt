@@ -10,24 +10,29 @@ use Rattle.chain_model.specs.States.{State, IsState, initial_of}
 use Rattle.one_trace.specs.declared.work.TraceWork.{TraceWork}
 use Rattle.one_trace.specs.Numbers.{GoesOnFrom}
 use Rattle.one_trace.specs.Known.{IsKnown}
+use Rattle.one_trace.specs.Soles.{AreSole}
+use Rattle.one_trace.specs.declared.soles.Soles.{Soles}
 use Rattle.one_trace.specs.Work.{IsMadeFor}
 use Rattle.one_trace.proofs.NumberLemmas.{keeps_start}
+use Rattle.one_trace.proofs.SoleLemmas.{sole_further}
 
 -- values that were written over as many
-pub written_over : (many : ℕ) (new old : List ℤ) → length old ≡ many → length new ≡ length old
+pub written_over : {X : Type 0} (many : ℕ) (new old : List X) → length old ≡ many → length new ≡ length old
     → take many (new ++ drop (length new) old) ≡ new
 written_over many new old is long =
     ap (λ (n : ℕ). take n (new ++ drop (length new) old)) (sym is ∙ sym long) ∙ take-append_seam new (drop (length new) old)
 
--- steps were made, and states may have come
-pub made_again : (job : Job) (before now : TraceWork) → now.code ≡ before.code → IsStepperOf job now.stepper → IsKnown job now.known
+-- steps were made, and states and commands may have come
+pub made_further : (job : Job) (before now : TraceWork) → now.code ≡ before.code → AreSole job now.known.table.states now.soles
+    → IsStepperOf job now.stepper → IsKnown job now.known
     → GoesOnFrom before.known.table.states now.known.table.states → now.initial.items ≡ before.initial.items → now.start ≡ before.start
     → length now.state.items ≡ length before.state.items → length now.first.items ≡ length before.first.items
     → length now.second.items ≡ length before.second.items → IsMadeFor job before → IsMadeFor job now
-made_again job before now code stepper known goes initial start state first second made = record {
+made_further job before now code soles stepper known goes initial start state first second made = record {
   code = subst (IsCode job) (sym code) made.code;
   stepper = stepper;
   known = known;
+  soles = soles;
   initial = initial ∙ made.initial;
   starts = subst (IsState job.chain) (sym initial) made.starts;
   start = subst (λ (o : Option ℕ). IfSome o (λ n. slice_get now.known.table.states n ≡ Some now.initial.items)) (sym start)
@@ -37,6 +42,18 @@ made_again job before now code stepper known goes initial start state first seco
   first = first ∙ made.first ∙ sym (ap length initial);
   second = second ∙ made.second ∙ sym (ap length initial);
 }
+
+-- steps were made, and states may have come
+pub made_again : (job : Job) (before now : TraceWork) → now.code ≡ before.code → now.soles ≡ before.soles
+    → IsStepperOf job now.stepper → IsKnown job now.known
+    → GoesOnFrom before.known.table.states now.known.table.states → now.initial.items ≡ before.initial.items → now.start ≡ before.start
+    → length now.state.items ≡ length before.state.items → length now.first.items ≡ length before.first.items
+    → length now.second.items ≡ length before.second.items → IsMadeFor job before → IsMadeFor job now
+made_again job before now code soles stepper known goes initial start state first second made =
+    made_further job before now code
+    (subst (λ (t : Soles). AreSole job now.known.table.states t) (sym soles)
+    (sole_further job before.known.table.states now.known.table.states before.soles goes made.soles))
+    stepper known goes initial start state first second made
 
 -- and they are as many still
 pub length-written : (many : ℕ) (new old : List ℤ) → length old ≡ many → length new ≡ length old

@@ -6,6 +6,7 @@ mod known;
 mod meeting;
 mod pairs;
 mod rows;
+mod soles;
 mod standing;
 mod trace;
 mod visits;

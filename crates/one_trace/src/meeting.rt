@@ -1,6 +1,6 @@
 //! What is known of the state that a trace has come to, and what is found out of it.
 
-ghost use Rattle.std.specs.Prelude.{◌≡◌, Ok, Some, slice_get, length};
+ghost use Rattle.std.specs.Prelude.{◌≡◌, Ok, Some, IfSome, slice_get, length};
 ghost use Rattle.chain_model.specs.declared.job.Job.{Job};
 ghost use Rattle.chain_model.specs.States.{State, IsState};
 ghost use Rattle.chain_model.specs.Trace.{pair_of};
@@ -82,12 +82,30 @@ fn row_of(job: &Job, work: &mut TraceWork) -> Row
     }
 }
 
+/// Keeps the commands of the one choice of a state, which is written out, where it has one and its row doesn't tell where a
+/// step leads.
+fn keep_choice(job: &Job, work: &mut TraceWork, number: u32, row: Row)
+    requires work { IsMadeFor job.now work.old }
+    requires state { slice_get work.old.known.table.states number ≡ Some work.old.state.items }
+    ensures known { work.new.known ≡ work.old.known }
+    ensures written { work.new.state.items ≡ work.old.state.items }
+    ensures work { IsMadeFor job.now work.new }
+{
+    let Row::Open(_, _) = row else {
+        return;
+    };
+    if let Some(size) = work.stepper.sole_choice(job, &work.state, &mut work.chosen) {
+        work.soles.keep(number, &work.chosen[..size]);
+    }
+}
+
 /// What is known of the state of a number, which is written out. Where it was met before, and no more is known, as much
 /// is found out as can be kept.
 fn meet(job: &Job, work: &mut TraceWork, number: u32) -> Row
     requires work { IsMadeFor job.now work.old }
     requires state { slice_get work.old.known.table.states number ≡ Some work.old.state.items }
     ensures row { IsRow job.now work.new.known.table.states work.old.state.items result }
+    ensures states { GoesOnFrom work.old.known.table.states work.new.known.table.states }
     ensures written { work.new.state.items ≡ work.old.state.items }
     ensures work { IsMadeFor job.now work.new }
 {
@@ -99,6 +117,7 @@ fn meet(job: &Job, work: &mut TraceWork, number: u32) -> Row
         Row::Once => {
             let row = row_of(job, work);
             work.known.keep(number, row);
+            keep_choice(job, work, number, row);
             row
         }
         row => row,
@@ -116,6 +135,7 @@ pub(crate) fn look(
     ensures pair { result ≡ pair_of job.now work.new.state.items }
     ensures written { (state : State) → IsAt work.old.known.table.states number work.old.state.items state
         → work.new.state.items ≡ state }
+    ensures numbered { IfSome number (λ n. slice_get work.new.known.table.states n ≡ Some work.new.state.items) }
     ensures work { IsMadeFor job.now work.new }
 {
     let Some(number) = number else {

@@ -1,8 +1,11 @@
 //! The state that a trace has come to: what its pair says, and where a step leads.
 
-ghost use Rattle.std.specs.Prelude.{◌≡◌, ◌≤◌, ◌+◌, ◌<◌, ◌^◌, nat_lt, if◌then◌else◌};
+ghost use Rattle.std.specs.Prelude.{◌≡◌, ◌≤◌, ◌+◌, ◌<◌, ◌^◌, [], Ok, Some, IfSome, nat_lt, if◌then◌else◌, slice_get};
 ghost use Rattle.trace_streams.specs.Draws.{draw_at};
 ghost use Rattle.chain_model.specs.Paths.{horizon_of};
+ghost use Rattle.chain_model.specs.States.{IsState};
+ghost use Rattle.chain_model.specs.Choices.{choices_of};
+ghost use Rattle.successors.specs.Moves.{next_of, came};
 ghost use Rattle.one_trace.specs.Work.{IsMadeFor};
 ghost use Rattle.one_trace.specs.Underway.{IsVisited};
 
@@ -11,7 +14,9 @@ use crate::meeting::look;
 use crate::rows::Row;
 use crate::standing::stand;
 use crate::work::TraceWork;
-use chain_model::{Job, Outcome, stays_without_choice, steps_draw_few, traces_keep_ranges};
+use chain_model::{
+    Job, Outcome, TraceFault, stays_without_choice, steps_draw_few, traces_keep_ranges,
+};
 use path_monitor::Monitor;
 use successors::Moved;
 use trace_streams::{Draws, draws_are_words};
@@ -104,7 +109,40 @@ fn visit_state(
     };
     match judge(monitor, first, second) {
         Some(outcome) => Visited::Settled(outcome),
-        None => advance(job, work, draws, monitor, step, (first, second)),
+        None => advance(job, work, number, draws, monitor, step, (first, second)),
+    }
+}
+
+/// Makes a step from the state that is written out, which has this number if any, and says whether a choice was taken.
+/// Where the commands of its one choice are known, no guard is evaluated.
+fn make_step(
+    job: &Job,
+    work: &mut TraceWork,
+    number: Option<u32>,
+    draws: &mut Draws,
+) -> Result<Moved, TraceFault>
+    requires work { IsMadeFor job.now work.old }
+    requires numbered { IfSome number (λ n. slice_get work.old.known.table.states n ≡ Some work.old.state.items) }
+    requires state { IsState job.now.chain work.old.state.items }
+    requires place { draws.old.place + 65 ≤ 2 ^ 62 }
+    ensures step { came result work.new.state.items draws.new.place
+        ≡ next_of job.now.chain (draw_at draws.old.seed draws.old.trace)
+        (record { state = work.old.state.items; position = draws.old.place }) }
+    ensures stayed { result ≡ Ok Moved.Stayed → choices_of job.now.chain work.old.state.items ≡ Ok [] }
+    ensures keeps { IsState job.now.chain work.new.state.items }
+    ensures stream { draws.new ≡ record draws.old { place = draws.new.place } }
+    ensures known { work.new.known ≡ work.old.known }
+    ensures work { IsMadeFor job.now work.new }
+{
+    let Some(commands) = work.soles.commands_of(number) else {
+        return work.stepper.advance(job, &mut work.state, draws);
+    };
+    match work
+        .stepper
+        .take_known(job, commands, &mut work.state, draws)
+    {
+        Ok(()) => Ok(Moved::Taken),
+        Err(fault) => Err(fault),
     }
 }
 
@@ -113,12 +151,14 @@ fn visit_state(
 fn advance(
     job: &Job,
     work: &mut TraceWork,
+    number: Option<u32>,
     draws: &mut Draws,
     monitor: &mut Monitor,
     step: u32,
     pair: (bool, bool),
 ) -> Visited
     requires work { IsMadeFor job.now work.old }
+    requires numbered { IfSome number (λ n. slice_get work.old.known.table.states n ≡ Some work.old.state.items) }
     requires near { step ≤ horizon_of job.now.path.kind }
     requires visited { IsVisited job.now draws.old.trace step monitor.old work.old.state.items draws.old pair }
     ensures comes { IsComeTo job.now draws.old.trace (step + 1) monitor.new work.new.known.table.states work.new.state.items
@@ -129,7 +169,7 @@ fn advance(
     steps_draw_few();
     traces_keep_ranges();
     stays_without_choice();
-    match work.stepper.advance(job, &mut work.state, draws) {
+    match make_step(job, work, number, draws) {
         Ok(Moved::Taken) => Visited::At(work.known.number_of(&work.state)),
         Ok(Moved::Stayed) => {
             Visited::Settled(stand(monitor, job.path.kind.horizon(), pair.0, pair.1))

@@ -5,7 +5,7 @@ use Rattle.std.proofs.lemmas.Option.{slice_get_within}
 use Rattle.chain_model.specs.States.{State, IsState}
 use Rattle.chain_model.specs.Trace.{pair_of}
 use Rattle.one_trace.specs.Numbers.{IsAt}
-use Rattle.one_trace.proofs.NumberLemmas.{goes_on_same}
+use Rattle.one_trace.proofs.NumberLemmas.{goes_on_same, keeps_number}
 use Rattle.one_trace.proofs.WorkLemmas.{written_over, made_again}
 use Rattle.one_trace.proofs.meeting.look.Goals as goal
 
@@ -25,7 +25,7 @@ pub meet-requires-clause-work : goal.meet-requires-clause-work
 meet-requires-clause-work c =
     let next : State = c.write_state.new.state in
     let long : length next ≡ length c.args.work.now.state.items = c.write_state.auto.state ∙ ap length c.deref_mut.ensures.value in
-    made_again c.args.job.now c.args.work.now _ refl c.requires.work.stepper c.requires.work.known
+    made_again c.args.job.now c.args.work.now _ refl refl c.requires.work.stepper c.requires.work.known
     (goes_on_same c.args.work.now.known.table.states) refl refl
     (ap length (written_over c.args.work.now.state.len next c.args.work.now.state.items (omega arith) long) ∙ long) refl refl c.requires.work
 
@@ -57,3 +57,23 @@ returns-in-None-clause-pair c =
     (subst (IsState c.args.job.now.chain) (sym (c.deref-in-None.ensures.value ∙ c.meet.ensures.written ∙ whole))
     (c.requires.work.known.states c.in-Some.number next c.write_state.ensures))
     ∙ ap (pair_of c.args.job.now) c.deref-in-None.ensures.value
+
+pub returns-in-Some-pair-clause-numbered : goal.returns-in-Some-pair-clause-numbered
+returns-in-Some-pair-clause-numbered c =
+    let next : State = c.write_state.new.state in
+    let long : length next ≡ length c.args.work.now.state.items = c.write_state.auto.state ∙ ap length c.deref_mut.ensures.value in
+    let whole : take c.args.work.now.state.len (next ++ drop (length next) c.args.work.now.state.items) ≡ next =
+    written_over c.args.work.now.state.len next c.args.work.now.state.items (omega arith) long in
+    subst (λ (o : Option ℕ). IfSome o (λ n. slice_get c.meet.new.work.known.table.states n ≡ Some c.meet.new.work.state.items)) (sym c.in-Some.is)
+    (keeps_number c.args.work.now.known.table.states c.meet.new.work.known.table.states c.in-Some.number next
+    c.meet.ensures.states c.write_state.ensures ∙ ap Some (sym (c.meet.ensures.written ∙ whole)))
+
+pub returns-in-None-clause-numbered : goal.returns-in-None-clause-numbered
+returns-in-None-clause-numbered c =
+    let next : State = c.write_state.new.state in
+    let long : length next ≡ length c.args.work.now.state.items = c.write_state.auto.state ∙ ap length c.deref_mut.ensures.value in
+    let whole : take c.args.work.now.state.len (next ++ drop (length next) c.args.work.now.state.items) ≡ next =
+    written_over c.args.work.now.state.len next c.args.work.now.state.items (omega arith) long in
+    subst (λ (o : Option ℕ). IfSome o (λ n. slice_get c.meet.new.work.known.table.states n ≡ Some c.meet.new.work.state.items)) (sym c.in-Some.is)
+    (keeps_number c.args.work.now.known.table.states c.meet.new.work.known.table.states c.in-Some.number next
+    c.meet.ensures.states c.write_state.ensures ∙ ap Some (sym (c.meet.ensures.written ∙ whole)))

@@ -10,7 +10,7 @@ use Rattle.one_trace.proofs.meeting.row_of.Goals as goal
 
 pub returns-in-Untold-clause-work : goal.returns-in-Untold-clause-work
 returns-in-Untold-clause-work c =
-    made_again c.args.job.now c.args.work.now _ refl c.in-Untold.ensures.stepper c.requires.work.known
+    made_again c.args.job.now c.args.work.now _ refl refl c.in-Untold.ensures.stepper c.requires.work.known
     (goes_on_same c.args.work.now.known.table.states) refl refl refl
     (length-written c.args.work.now.first.len c.next_states.new.first c.args.work.now.first.items (omega arith) (c.next_states.auto.first ∙ ap length c.deref_mut.ensures.value))
     (length-written c.args.work.now.second.len c.next_states.new.second c.args.work.now.second.items (omega arith) (c.next_states.auto.second ∙ ap length c.deref_mut-2.ensures.value))
@@ -18,7 +18,7 @@ returns-in-Untold-clause-work c =
 
 pub returns-in-Stays-clause-work : goal.returns-in-Stays-clause-work
 returns-in-Stays-clause-work c =
-    made_again c.args.job.now c.args.work.now _ refl c.in-Stays.ensures.stepper c.requires.work.known
+    made_again c.args.job.now c.args.work.now _ refl refl c.in-Stays.ensures.stepper c.requires.work.known
     (goes_on_same c.args.work.now.known.table.states) refl refl refl
     (length-written c.args.work.now.first.len c.next_states.new.first c.args.work.now.first.items (omega arith) (c.next_states.auto.first ∙ ap length c.deref_mut.ensures.value))
     (length-written c.args.work.now.second.len c.next_states.new.second c.args.work.now.second.items (omega arith) (c.next_states.auto.second ∙ ap length c.deref_mut-2.ensures.value))
@@ -42,7 +42,7 @@ returns-in-One-clause-work c =
     let next : State = c.next_states.new.first in
     let whole : take c.args.work.now.first.len (next ++ drop (length next) c.args.work.now.first.items) ≡ next =
     written_over c.args.work.now.first.len next c.args.work.now.first.items (omega arith) (c.next_states.auto.first ∙ ap length c.deref_mut.ensures.value) in
-    made_again c.args.job.now c.args.work.now _ refl c.in-One.ensures.stepper
+    made_again c.args.job.now c.args.work.now _ refl refl c.in-One.ensures.stepper
     (c.row_of_one.ensures.known c.args.job.now c.requires.work.known
     (subst (IsState c.args.job.now.chain) (sym (c.deref-in-One.ensures.value ∙ whole)) c.in-One.ensures.next.fits))
     c.row_of_one.ensures.states refl refl refl
@@ -75,7 +75,7 @@ returns-in-Drawn-clause-work c =
     written_over c.args.work.now.first.len first c.args.work.now.first.items (omega arith) (c.next_states.auto.first ∙ ap length c.deref_mut.ensures.value) in
     let other : take c.args.work.now.second.len (second ++ drop (length second) c.args.work.now.second.items) ≡ second =
     written_over c.args.work.now.second.len second c.args.work.now.second.items (omega arith) (c.next_states.auto.second ∙ ap length c.deref_mut-2.ensures.value) in
-    made_again c.args.job.now c.args.work.now _ refl c.in-Drawn.ensures.stepper
+    made_again c.args.job.now c.args.work.now _ refl refl c.in-Drawn.ensures.stepper
     (c.row_of_two.ensures.known c.args.job.now c.requires.work.known
     (subst (IsState c.args.job.now.chain) (sym (c.deref-in-Drawn.ensures.value ∙ whole)) c.in-Drawn.ensures.next.first_fits)
     (subst (IsState c.args.job.now.chain) (sym (c.deref-in-Drawn-2.ensures.value ∙ other)) c.in-Drawn.ensures.next.second_fits))

@@ -15,5 +15,5 @@ returns-in-None-clause-state c = λ job made. c.copy_from_slice.ensures.items �
 
 pub returns-in-None-clause-work : goal.returns-in-None-clause-work
 returns-in-None-clause-work c = λ job made.
-    made_again job c.args.work.now _ refl made.stepper made.known (goes_on_same c.args.work.now.known.table.states) refl refl
+    made_again job c.args.work.now _ refl refl made.stepper made.known (goes_on_same c.args.work.now.known.table.states) refl refl
     (ap length (c.copy_from_slice.ensures.items ∙ c.as_slice.ensures.value) ∙ sym made.room) refl refl made
