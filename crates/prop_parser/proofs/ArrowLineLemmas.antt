@@ -1,10 +1,8 @@
 -- A property has a long chain exactly where its tokens have a later arrow.
-use Rattle.std.proofs.Common.{◌≡◌, ℕ, ◌+◌, ◌⊎◌, inl, inr, ⊎_elim, Bool, true, false, List, [], ◌∷◌, ◌++◌, length, refl, sym, ◌∙◌, ap, append-nil}
-use Rattle.std.specs.Prelude.{All}
+use Rattle.std.proofs.Common.{◌≡◌, ℕ, ◌+◌, inl, inr, ⊎_elim, Bool, true, false, List, [], ◌∷◌, ◌++◌, length, refl, sym, ◌∙◌, ap, append-nil}
 use Rattle.prism_syntax.specs.declared.labels.Labels.TheVariants.{Allowed}
 use Rattle.prism_syntax.specs.declared.tokens.Kind.{Kind}
 use Rattle.prism_syntax.specs.declared.tokens.Kind.TheVariants as k
-use Rattle.prism_syntax.specs.declared.expressions.Expr.{Expr}
 use Rattle.prism_syntax.specs.declared.properties.Cmp.{Cmp}
 use Rattle.prism_syntax.specs.declared.properties.Time.{Time}
 use Rattle.prism_syntax.specs.declared.properties.PathText.{PathText}

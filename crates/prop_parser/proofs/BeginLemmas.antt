@@ -9,7 +9,7 @@ use Rattle.prism_syntax.specs.declared.tokens.Kind.TheVariants as k
 use Rattle.prism_syntax.specs.Expressions.{Derives}
 use Rattle.prism_syntax.specs.Properties.{IsTime, IsProperty}
 use Rattle.prism_reading.specs.Reach.{IsPrefix}
-use Rattle.prism_reading.specs.Sequences.{IsTerminal, Both, Ended}
+use Rattle.prism_reading.specs.Sequences.{Ended}
 use Rattle.prism_reading.specs.Begins.{BeginsTerminal, BeginsBoth}
 use Rattle.prism_reading.proofs.DefiniteLemmas.{HasText, text_begins, nothing_begins, terminal_has}
 use Rattle.prism_reading.proofs.BothLemmas.{both_has}

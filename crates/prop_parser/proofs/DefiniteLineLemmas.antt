@@ -1,5 +1,5 @@
 -- Each line of properties is definite: tokens begin with at most one text of it.
-use Rattle.std.proofs.Common.{◌≡◌, ◌⊎◌, inl, inr, ℕ, List, [], ◌∷◌, ◌++◌, length, Some, None, refl, sym, ◌∙◌, ap, subst}
+use Rattle.std.proofs.Common.{◌≡◌, ◌⊎◌, inl, inr, ℕ, List, [], ◌∷◌, length, Some, refl, sym, ◌∙◌, ap, subst}
 use Rattle.std.proofs.lemmas.Option.{none-some}
 use Rattle.smc_num.specs.Fraction.{Fraction}
 use Rattle.prism_syntax.specs.declared.labels.Labels.TheVariants.{Allowed}
@@ -10,9 +10,7 @@ use Rattle.prism_syntax.specs.declared.expressions.Expr.{Expr}
 use Rattle.prism_syntax.specs.declared.expressions.Expr.TheVariants as e
 use Rattle.prism_syntax.specs.declared.precedence.Precedence.TheVariants as rule
 use Rattle.prism_syntax.specs.declared.properties.Time.{Time}
-use Rattle.prism_syntax.specs.declared.properties.PathText.{PathText}
 use Rattle.prism_syntax.specs.declared.properties.PathText.TheVariants as path
-use Rattle.prism_syntax.specs.declared.properties.Property.{Property}
 use Rattle.prism_syntax.specs.Tokens.{kinds}
 use Rattle.prism_syntax.specs.Properties.{IsTime, IsProperty}
 use Rattle.prism_reading.specs.Reading.{Anything, Parses, Fails}
@@ -20,13 +18,12 @@ use Rattle.prism_reading.specs.Sequences.{IsTerminal, IsName, Both, OneOf}
 use Rattle.prism_reading.proofs.ReachLemmas.{heads}
 use Rattle.prism_reading.proofs.TerminalLemmas.{terminal_kinds, terminal_parses}
 use Rattle.prism_reading.proofs.MadeLemmas.{made_definite, made_starts, made_found, made_missing}
-use Rattle.prism_reading.proofs.DefiniteLemmas.{IsDefinite, HasText, Starts, anything_leads, terminal_definite, terminal_has, terminal_starts, name_definite, name_has, name_starts, IsNameKind, is_name, found, misses}
-use Rattle.prism_reading.proofs.BothLemmas.{both_definite, both_has, both_starts, both_found, first_missing, second_missing}
+use Rattle.prism_reading.proofs.DefiniteLemmas.{IsDefinite, Starts, anything_leads, terminal_definite, terminal_has, terminal_starts, name_definite, name_has, name_starts, IsNameKind, is_name, found, misses}
+use Rattle.prism_reading.proofs.BothLemmas.{both_definite, both_has, both_starts, both_found, second_missing}
 use Rattle.prism_reading.proofs.OneOfLemmas.{starts_apart, one_of_definite, one_of_starts, first_has, first_found, second_found, first_alone, second_alone}
 use Rattle.prop_parser.specs.Parts.{IsOne, cmp_of, strict_of, IsStateUntil, IsLast, paren, IsTimed, IsPathUntil, IsBoundUntil}
-use Rattle.prop_parser.specs.Parts as parts
-use Rattle.prop_parser.proofs.OneLemmas.{HasTree, one_definite, one_starts, one_missing, until_definite, state_has, bound_has, state_starts, IsNoPathWord}
-use Rattle.prop_parser.proofs.LineLemmas.{whole_of, whole_has, last_made, time_made, path_made, property_made, NextParts, FinallyParts, GloballyParts, UntilParts, PathParts, TimeParts, PropertyParts, last_has, timed_has, path_has}
+use Rattle.prop_parser.proofs.OneLemmas.{HasTree, one_definite, one_starts, one_missing, until_definite, state_has, state_starts, IsNoPathWord}
+use Rattle.prop_parser.proofs.LineLemmas.{whole_of, whole_has, last_made, time_made, path_made, property_made, NextParts, FinallyParts, GloballyParts, UntilParts, PathParts, TimeParts, PropertyParts, last_has, timed_has}
 
 -- a name is no `(`
 name_open : (t : Kind) → IsNameKind t → t ≡ k.Open → ⊥

@@ -1,5 +1,5 @@
 -- A property of well-formed tokens is well formed.
-use Rattle.std.proofs.Common.{◌≡◌, ℕ, inl, inr, List, [], ◌∷◌, ◌++◌, refl, sym, subst}
+use Rattle.std.proofs.Common.{inl, inr, List, [], ◌∷◌, ◌++◌, refl}
 use Rattle.std.specs.Prelude.{All, Result, Ok, Err, IfOk}
 use Rattle.std.proofs.lemmas.List.{append-nil}
 use Rattle.std.proofs.lemmas.List.Elements.{All-head, All-tail, All-map}
@@ -19,7 +19,7 @@ use Rattle.prism_syntax.specs.Properties.{IsTime, IsPath, IsProperty}
 use Rattle.prism_syntax.specs.WellFormed.{IsFormedKind, IsFormed, IsFormedTime, IsFormedPath, IsFormedProperty}
 use Rattle.prism_expression.proofs.FormedLemmas.{all_front, all_rest}
 use Rattle.prism_limits.specs.declared.kinds.TextKind.TheVariants.{Property as ForProperty}
-use Rattle.prism_limits.specs.Arrows.{HasLongChain, in_paren}
+use Rattle.prism_limits.specs.Arrows.{in_paren}
 use Rattle.prism_parser.specs.declared.fault.ParseFault.{ParseFault}
 use Rattle.prism_parser.specs.Outcome.{IsNoText, Tells}
 use Rattle.prism_parser.proofs.TextLemmas.{text_formed}

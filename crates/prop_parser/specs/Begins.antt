@@ -8,7 +8,6 @@ use Rattle.prism_syntax.specs.declared.tokens.Kind.{Kind}
 use Rattle.prism_syntax.specs.declared.tokens.Kind.TheVariants as k
 use Rattle.prism_syntax.specs.Expressions.{Derives}
 use Rattle.prism_syntax.specs.Properties.{IsTime}
-use Rattle.prism_reading.specs.Sequences.{IsTerminal}
 use Rattle.prism_reading.specs.Begins.{BeginsTerminal, BeginsName, BeginsBoth, BeginsAfter, BeginsOneOf}
 use Rattle.prism_expression.specs.Begins.{Begins}
 use Rattle.prop_parser.specs.Parts.{IsOne, cmp_of, strict_of, IsStateUntil, IsBoundUntil}

@@ -1,11 +1,10 @@
 -- When a tree of a property has a chain of two or more arrows.
-use Rattle.prism_syntax.specs.declared.expressions.Expr.{Expr}
 use Rattle.prism_syntax.specs.declared.properties.Time.{Time}
 use Rattle.prism_syntax.specs.declared.properties.Time.TheVariants.{Upto}
 use Rattle.prism_syntax.specs.declared.properties.PathText.{PathText}
 use Rattle.prism_syntax.specs.declared.properties.PathText.TheVariants as path
 use Rattle.prism_syntax.specs.declared.properties.Property.{Property}
-use Rattle.std.specs.Prelude.{◌⊎◌, Bool}
+use Rattle.std.specs.Prelude.{◌⊎◌}
 use Rattle.prism_limits.specs.Arrows.{HasLongChain}
 
 -- a chain of a time has two or more arrows

@@ -1,5 +1,4 @@
 use Rattle.std.proofs.Common.{◌∷◌, [], sym, ap, ◌∙◌, length, subst}
-use Rattle.prism_syntax.specs.Tokens.{kinds}
 use Rattle.prism_syntax.specs.declared.tokens.Kind.TheVariants as k
 use Rattle.prism_syntax.specs.declared.expressions.Expr.TheVariants as e
 use Rattle.prism_reading.specs.Reading.{Anything, Parses}
