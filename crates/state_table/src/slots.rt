@@ -25,13 +25,23 @@ const PROBES: u32 = 8;
 /// Spreads values well, if multiplied by them: it is odd, and its bits are irregular.
 const SPREAD: u64 = 0x9e37_79b9_7f4a_7c15;
 
-/// A number that differs for most states.
+/// A number that differs for most states. Four sums take a value each in turn, so that none waits for the one before.
 #[inline(always)]
 fn hash_of(state: &[i64]) -> u64 {
-    let mut hash = 0;
+    let mut first: u64 = 0;
+    let mut second: u64 = 0;
+    let mut third: u64 = 0;
+    let mut fourth: u64 = 0;
     for value in state {
-        hash = (u64::rotate_left(hash, 5) ^ value.cast_unsigned()).wrapping_mul(SPREAD);
+        let next = (u64::rotate_left(first, 5) ^ value.cast_unsigned()).wrapping_mul(SPREAD);
+        first = second;
+        second = third;
+        third = fourth;
+        fourth = next;
     }
+    let low = first ^ u64::rotate_left(second, 16);
+    let high = u64::rotate_left(third, 32) ^ u64::rotate_left(fourth, 48);
+    let hash = (low ^ high).wrapping_mul(SPREAD);
     hash ^ (hash >> 32)
 }
 
