@@ -1,7 +1,7 @@
 mod NumberLemmas
 mod RowLemmas
 mod KnownLemmas
-mod SoleLemmas
+mod KeptLemmas
 mod StandingLemmas
 mod UnderwayLemmas
 mod StayingLemmas

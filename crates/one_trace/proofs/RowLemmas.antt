@@ -1,10 +1,10 @@
 -- Rows of states, where the states go on.
-use Rattle.std.proofs.Common.{◌≡◌, ◌⊎◌, inl, inr, ℕ, ◌<◌, List, [], ◌∷◌, ◌++◌, length, set, refl, sym, ◌∙◌, ap, subst, arith}
+use Rattle.std.proofs.Common.{◌≡◌, inl, inr, ℕ, ◌<◌, List, [], ◌∷◌, ◌++◌, length, set, refl, sym, ◌∙◌, ap, subst, arith}
 use Rattle.std.specs.Prelude.{Some, slice_get}
 use Rattle.std.proofs.lemmas.Option.{same_Some, slice_get_within}
 use Rattle.chain_model.specs.declared.chain.Chain.{Chain}
 use Rattle.chain_model.specs.declared.job.Job.{Job}
-use Rattle.chain_model.specs.States.{State, IsState}
+use Rattle.chain_model.specs.States.{State}
 use Rattle.one_trace.specs.declared.rows.Row.{Row}
 use Rattle.one_trace.specs.declared.rows.Row.TheVariants as r
 use Rattle.one_trace.specs.Numbers.{GoesOnFrom}

@@ -1,6 +1,6 @@
 -- Where a trace goes on from a state that it has come to.
-use Rattle.std.proofs.Common.{◌≡◌, ℕ, ◌+◌, ◌<◌, ◌≤◌, ◌^◌, Bool, true, false, List, refl, sym, ◌∙◌, ap, subst, arith}
-use Rattle.std.specs.Prelude.{Option, Some, None, Ok, IfOk, IfSome, nat_lt, if◌then◌else◌, slice_get}
+use Rattle.std.proofs.Common.{◌≡◌, ℕ, ◌+◌, ◌<◌, ◌≤◌, ◌^◌, Bool, true, false, List, refl, sym, ◌∙◌, ap}
+use Rattle.std.specs.Prelude.{Some, Ok, IfOk, nat_lt, if◌then◌else◌, slice_get}
 use Rattle.trace_streams.specs.Draws.{draw_at, Place}
 use Rattle.chain_model.specs.declared.chain.Chain.{Chain}
 use Rattle.chain_model.specs.declared.job.Job.{Job}

@@ -1,7 +1,7 @@
 pub mod Numbers
 pub mod Rows
 pub mod Known
-pub mod Soles
+pub mod Kept
 pub mod Work
 pub mod Underway
 pub mod Visits

@@ -1,6 +1,6 @@
 //! The states that traces have met, and what is known of each.
 
-ghost use Rattle.std.specs.Prelude.{◌≡◌, ◌<◌, ◌≤◌, [], Some, IfOk, IfSome, List, length, slice_get, vec_capacity};
+ghost use Rattle.std.specs.Prelude.{◌≡◌, ◌<◌, ◌≤◌, ◌+◌, ◌-◌, [], Some, IfOk, IfSome, List, length, min, slice_get, vec_capacity, if◌then◌else◌};
 ghost use Rattle.state_table.specs.Table.{room_of};
 ghost use Rattle.chain_model.specs.declared.job.Job.{Job};
 ghost use Rattle.chain_model.specs.States.{State, IsState};
@@ -10,11 +10,31 @@ use crate::rows::Row;
 use state_table::StateTable;
 use std::alloc::{AllocError, Global};
 
-/// The states that traces have met, and for each what is known of it. All its memory is taken by `new`.
+/// How many states in a row may come for the first time before none is looked for any more.
+const MOST_PATIENCE: u32 = 16_384;
+
+/// For how many of them one that came again makes up.
+const WORTH: u32 = 4;
+
+/// What is left of a patience after one state more, by whether it came again.
+#[inline(always)]
+fn patience_left(patience: u32, again: bool) -> u32
+    ensures { result ≡ (if again then min (patience + 4) 16384 else patience - 1) }
+{
+    if again {
+        patience.saturating_add(WORTH).min(MOST_PATIENCE)
+    } else {
+        patience.saturating_sub(1)
+    }
+}
+
+/// The states that traces have met, and for each what is known of it. All its memory is taken by `new`. Where hardly any
+/// state comes again, none is looked for any more.
 #[derive(Debug, Drop)]
 pub(crate) struct Known {
     pub(crate) table: StateTable,
     pub(crate) rows: Vec<Row>,
+    patience: u32,
     ghost many: { length rows.items ≡ length table.states },
     ghost room: { room_of table.width ≤ vec_capacity rows },
 }
@@ -30,10 +50,14 @@ impl Known {
     {
         let table = StateTable::new(alloc, width)?;
         let rows = Vec::with_capacity(alloc, table.room())?;
-        Ok(Known { table, rows })
+        Ok(Known {
+            table,
+            rows,
+            patience: MOST_PATIENCE,
+        })
     }
 
-    /// The number of a state, which has one from now on if there is room for it.
+    /// The number of a state, which has one from now on if there is room for it and patience is left.
     pub(crate) fn number_of(&mut self, state: &[i64]) -> Option<u32>
         requires { length state.now ≡ self.old.table.width }
         ensures number { IfSome result (λ number. slice_get self.new.table.states number ≡ Some state.now) }
@@ -41,10 +65,15 @@ impl Known {
         ensures width { self.new.table.width ≡ self.old.table.width }
         ensures known { (job : Job) → IsKnown job self.old → IsState job.chain state.now → IsKnown job self.new }
     {
+        if self.patience == 0 {
+            return None;
+        }
         let number = self.table.number_of(state);
         if self.rows.len() == self.table.len() {
+            self.patience = patience_left(self.patience, number.is_some());
             return number;
         }
+        self.patience = patience_left(self.patience, false);
         self.rows.push_reserved(Row::New);
         number
     }

@@ -2,11 +2,11 @@
 #![tactic(auto)]
 
 mod judging;
+mod kept;
 mod known;
 mod meeting;
 mod pairs;
 mod rows;
-mod soles;
 mod standing;
 mod trace;
 mod visits;

@@ -82,8 +82,7 @@ fn row_of(job: &Job, work: &mut TraceWork) -> Row
     }
 }
 
-/// Keeps the commands of the one choice of a state, which is written out, where it has one and its row doesn't tell where a
-/// step leads.
+/// Keeps the choices of a state, which is written out, where they are known and its row doesn't tell where a step leads.
 fn keep_choice(job: &Job, work: &mut TraceWork, number: u32, row: Row)
     requires work { IsMadeFor job.now work.old }
     requires state { slice_get work.old.known.table.states number ≡ Some work.old.state.items }
@@ -94,8 +93,12 @@ fn keep_choice(job: &Job, work: &mut TraceWork, number: u32, row: Row)
     let Row::Open(_, _) = row else {
         return;
     };
-    if let Some(size) = work.stepper.sole_choice(job, &work.state, &mut work.chosen) {
-        work.soles.keep(number, &work.chosen[..size]);
+    if let Some(listed) = work
+        .stepper
+        .known_choices(job, &work.state, &mut work.chosen)
+    {
+        work.kept
+            .keep(number, listed, &work.chosen[..listed.count * listed.size]);
     }
 }
 

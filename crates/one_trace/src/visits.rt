@@ -114,7 +114,7 @@ fn visit_state(
 }
 
 /// Makes a step from the state that is written out, which has this number if any, and says whether a choice was taken.
-/// Where the commands of its one choice are known, no guard is evaluated.
+/// Where its choices are known, no guard is evaluated.
 fn make_step(
     job: &Job,
     work: &mut TraceWork,
@@ -134,12 +134,12 @@ fn make_step(
     ensures known { work.new.known ≡ work.old.known }
     ensures work { IsMadeFor job.now work.new }
 {
-    let Some(commands) = work.soles.commands_of(number) else {
+    let Some((listed, commands)) = work.kept.choices_of(number) else {
         return work.stepper.advance(job, &mut work.state, draws);
     };
     match work
         .stepper
-        .take_known(job, commands, &mut work.state, draws)
+        .take_known(job, listed, commands, &mut work.state, draws)
     {
         Ok(()) => Ok(Moved::Taken),
         Err(fault) => Err(fault),

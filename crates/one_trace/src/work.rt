@@ -6,16 +6,18 @@ ghost use Rattle.chain_model.specs.States.{State, IsState, initial_of};
 ghost use Rattle.guard_code.specs.Codes.{IsCode};
 ghost use Rattle.successors.specs.Steppers.{IsStepperOf};
 ghost use Rattle.one_trace.specs.Known.{IsKnown};
-ghost use Rattle.one_trace.specs.Soles.{AreSole};
+ghost use Rattle.one_trace.specs.Kept.{AreKept};
 ghost use Rattle.one_trace.specs.Work.{IsMadeFor};
 
+use crate::kept::KeptChoices;
 use crate::known::Known;
-use crate::soles::Soles;
-use chain_model::limits::MOST_MODULES;
 use chain_model::{Chain, Job, initial};
 use guard_code::{Code, compile};
 use std::alloc::{AllocError, Global};
 use successors::Stepper;
+
+/// For how many commands of one state's choices there is room.
+const MOST_CHOSEN: usize = 1_024;
 
 /// The memory for drawing traces of a job, taken once and used for one trace after another.
 #[derive(Debug, Drop)]
@@ -23,7 +25,7 @@ pub struct TraceWork {
     pub(crate) code: Code,
     pub(crate) stepper: Stepper,
     pub(crate) known: Known,
-    pub(crate) soles: Soles,
+    pub(crate) kept: KeptChoices,
     pub(crate) initial: Vec<i64>,
     pub(crate) start: Option<u32>,
     pub(crate) state: Vec<i64>,
@@ -63,28 +65,28 @@ fn initial_states(alloc: Global, chain: &Chain) -> Result<(Vec<i64>, Vec<i64>), 
     Ok((first, second))
 }
 
-/// What is known of choices before the first trace, which is nothing, and room for the commands of one.
-fn choices_at_first(alloc: Global, states: usize) -> Result<(Soles, Vec<u32>), AllocError>
-    ensures { IfOk result (λ made. (job : Job) (known : List State) → AreSole job known made.0) }
+/// What is known of choices before the first trace, which is nothing, and room for the commands of a state's choices.
+fn choices_at_first(alloc: Global, states: usize) -> Result<(KeptChoices, Vec<u32>), AllocError>
+    ensures { IfOk result (λ made. (job : Job) (known : List State) → AreKept job known made.0) }
 {
-    let soles = Soles::new(alloc, states)?;
-    let chosen = vec![in alloc; 0; MOST_MODULES]?;
-    Ok((soles, chosen))
+    let kept = KeptChoices::new(alloc, states)?;
+    let chosen = vec![in alloc; 0; MOST_CHOSEN]?;
+    Ok((kept, chosen))
 }
 
 /// What is known before the first trace of states and of their choices, with the number of the initial state, and room for
-/// the commands of a choice.
+/// the commands of a state's choices.
 fn memory_at_first(
     alloc: Global,
     state: &[i64],
-) -> Result<(Known, Option<u32>, Soles, Vec<u32>), AllocError>
+) -> Result<(Known, Option<u32>, KeptChoices, Vec<u32>), AllocError>
     ensures known { IfOk result (λ made. (job : Job) → IsState job.chain state.now → IsKnown job made.0) }
     ensures start { IfOk result (λ made. IfSome made.1 (λ number. slice_get made.0.table.states number ≡ Some state.now)) }
-    ensures soles { IfOk result (λ made. (job : Job) (known : List State) → AreSole job known made.2) }
+    ensures kept { IfOk result (λ made. (job : Job) (known : List State) → AreKept job known made.2) }
 {
     let (known, start) = known_at_first(alloc, state)?;
-    let (soles, chosen) = choices_at_first(alloc, known.table.room())?;
-    Ok((known, start, soles, chosen))
+    let (kept, chosen) = choices_at_first(alloc, known.table.room())?;
+    Ok((known, start, kept, chosen))
 }
 
 impl TraceWork {
@@ -95,12 +97,12 @@ impl TraceWork {
         let (code, stepper) = compiled(alloc, job)?;
         let (initial, state) = initial_states(alloc, &job.chain)?;
         let (first, second) = initial_states(alloc, &job.chain)?;
-        let (known, start, soles, chosen) = memory_at_first(alloc, &initial)?;
+        let (known, start, kept, chosen) = memory_at_first(alloc, &initial)?;
         Ok(TraceWork {
             code,
             stepper,
             known,
-            soles,
+            kept,
             initial,
             start,
             state,

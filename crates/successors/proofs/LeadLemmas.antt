@@ -23,6 +23,7 @@ use Rattle.successors.specs.Nexts.{IsNext}
 use Rattle.successors.specs.Choosing.{IsOnlyChoice}
 use Rattle.successors.specs.Branching.{IsSure, IsByDraw, made_by, draws_of, IsLed}
 use Rattle.successors.proofs.BranchingLemmas.{either_way}
+use Rattle.successors.proofs.ChoiceLemmas.{only_taken}
 use Rattle.successors.proofs.MoveLemmas.{next_after}
 
 -- what is assigned is within its variable's range
@@ -130,7 +131,7 @@ stepped : (chain : Chain) (draw : ℕ → ℕ) (state next : State) (position af
     → made_by chain draw state position state commands ≡ Ok next → position + draws_of chain commands ≡ after
     → next_of chain draw (record { state = state; position = position }) ≡ Ok (record { state = next; position = after })
 stepped chain draw state next position after commands only made moved =
-    next_after chain draw state position position commands (only.taken draw position)
+    next_after chain draw state position position commands (only_taken chain draw state position commands only)
     ∙ bind_assoc (branches_of chain draw state position commands) (λ bs. assigned_to chain state state (all_sets chain commands bs))
     (λ (s : State). Ok (record { state = s; position = position + draws_of chain commands }))
     ∙ ap (λ (r : Result State TraceFault). r >>= λ s. Ok (record { state = s; position = position + draws_of chain commands })) made

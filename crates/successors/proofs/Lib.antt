@@ -10,8 +10,10 @@ pub mod ShareLemmas
 pub mod CommandLemmas
 pub mod TakingLemmas
 pub mod MoveLemmas
+pub mod ChoiceLemmas
 pub mod SoleLemmas
 pub mod GuardLemmas
+pub mod PlainLemmas
 pub mod FixedLemmas
 pub mod BranchingLemmas
 pub mod LeadLemmas

@@ -55,7 +55,7 @@ pub first_further : {A B : Type 0} (f : A → List B) (xs : List A) (i : ℕ) (x
 first_further f xs i x lt is so = sym so ∙ (cut_at f xs i x lt is).is
 
 -- one command alone
-written_first : (chosen : List ℕ) (x : ℕ) → 1 ≤ length chosen → take 1 (set chosen 0 x) ≡ x ∷ []
+pub written_first : (chosen : List ℕ) (x : ℕ) → 1 ≤ length chosen → take 1 (set chosen 0 x) ≡ x ∷ []
 written_first [] x some = absurd (omega (arith, some))
 written_first (y ∷ ys) x some = refl
 

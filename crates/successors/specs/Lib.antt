@@ -5,6 +5,7 @@ pub mod Weighing
 pub mod Commands
 pub mod Moves
 pub mod Choosing
+pub mod Plain
 pub mod Branching
 pub mod Nexts
 pub mod Steppers

@@ -1,16 +1,18 @@
 -- What a step needs beside a state: the compiled chain, and room for what is taken.
-use Rattle.std.specs.Prelude.{◌≡◌, ◌≤◌, All, length}
+use Rattle.std.specs.Prelude.{◌≡◌, ◌≤◌, All, IsTrue, length}
 use Rattle.chain_model.specs.declared.chain.Chain.{Chain}
 use Rattle.chain_model.specs.declared.job.Job.{Job}
 use Rattle.successors.specs.declared.plan.Plan.{Plan}
 use Rattle.successors.specs.declared.plan.Room.{Room}
 use Rattle.successors.specs.declared.stepper.Stepper.{Stepper}
 use Rattle.successors.specs.Partition.{IsPartition}
+use Rattle.successors.specs.Plain.{HaveTruth}
 use Rattle.successors.specs.Commands.{AreCommands, AreGuardNodes}
 
--- a plan is a chain's: its guards, its commands, and what they may be part of
+-- a plan is a chain's: its guards, which have a truth value in every state where it says so, its commands, and what they may be part of
 pub record IsPlan (chain : Chain) (plan : Plan) : Type 0 where
   pub guards : AreGuardNodes chain.commands plan.guards
+  pub plain : IsTrue plan.plain → HaveTruth plan.guards
   pub commands : AreCommands chain plan.commands
   pub partition : IsPartition chain plan.partition.singles plan.partition.actions
 

@@ -54,8 +54,33 @@ fn write_action(
     unreachable!()
 }
 
-/// Writes the commands of the choice of a number, where those of the first choice stand, which are so many; and says how
-/// many they are.
+/// Writes the commands of the choice of a number, and says how many they are.
+pub fn write_numbered(
+    enabled: &[u8],
+    lane: u32,
+    singles: &[u32],
+    actions: &[Items<Items<u32>>],
+    number: u64,
+    chosen: &mut [u32],
+) -> usize
+    requires lane { lane < 8 }
+    requires there { number < length (choice_lists (is_enabled lane enabled.now) singles.now actions.now) }
+    requires few { length (choice_lists (is_enabled lane enabled.now) singles.now actions.now) ≤ 2 ^ 48 }
+    requires some { 1 ≤ length chosen.old }
+    requires room { All (λ lists. length lists ≤ length chosen.old) actions.now }
+    ensures within { result ≤ length chosen.old }
+    ensures value { slice_get (choice_lists (is_enabled lane enabled.now) singles.now actions.now) number
+        ≡ Some (take result chosen.new) }
+{
+    let alone = count_enabled(enabled, lane, singles);
+    if number < alone {
+        chosen[0] = nth_enabled(enabled, lane, singles, number);
+        return 1;
+    }
+    write_action(enabled, lane, actions, number - alone, chosen)
+}
+
+/// The same, where those of the first choice stand, which are so many.
 pub fn write_choice(
     enabled: &[u8],
     lane: u32,
@@ -80,10 +105,5 @@ pub fn write_choice(
     if number == 0 {
         return size;
     }
-    let alone = count_enabled(enabled, lane, singles);
-    if number < alone {
-        chosen[0] = nth_enabled(enabled, lane, singles, number);
-        return 1;
-    }
-    write_action(enabled, lane, actions, number - alone, chosen)
+    write_numbered(enabled, lane, singles, actions, number, chosen)
 }

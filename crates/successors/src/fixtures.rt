@@ -183,14 +183,36 @@ fn names(alloc: Global, modules: usize) -> Result<Items<Text>, AllocError> {
     Ok(names)
 }
 
-/// One action of these modules, or none where there are none.
-fn actions(alloc: Global, takes: &[u32]) -> Result<Items<Action>, AllocError> {
+/// An action of these modules.
+fn action(alloc: Global, name: &[u8], takes: &[u32]) -> Result<Action, AllocError> {
+    Ok(Action {
+        name: Text::from_bytes(alloc, name)?,
+        takes: Items::from_slice(alloc, takes)?,
+    })
+}
+
+/// Whether one of some commands has the action of a number.
+fn is_used(commands: &[Command], number: u32) -> bool {
+    for command in commands {
+        if command.action == Some(number) {
+            return true;
+        }
+    }
+    false
+}
+
+/// The actions of commands, at most two and each of these modules.
+fn actions(
+    alloc: Global,
+    takes: &[u32],
+    commands: &[Command],
+) -> Result<Items<Action>, AllocError> {
     let mut actions = Items::new(alloc);
-    if !takes.is_empty() {
-        actions.push(Action {
-            name: Text::from_bytes(alloc, b"a")?,
-            takes: Items::from_slice(alloc, takes)?,
-        })?;
+    if is_used(commands, 0) {
+        actions.push(action(alloc, b"a", takes)?)?;
+    }
+    if is_used(commands, 1) {
+        actions.push(action(alloc, b"b", takes)?)?;
     }
     Ok(actions)
 }
@@ -204,8 +226,8 @@ fn path(alloc: Global) -> Result<Path, AllocError> {
     })
 }
 
-/// The job under seed 1 of a chain whose modules have a variable each that starts with these values, of an action of
-/// some modules, and of commands.
+/// The job under seed 1 of a chain whose modules have a variable each that starts with these values, and of commands,
+/// whose actions are of some of the modules.
 pub fn job(
     alloc: Global,
     starts: &[i64],
@@ -213,7 +235,7 @@ pub fn job(
     commands: &[Command],
 ) -> Result<Option<Job>, AllocError> {
     let vars = variables(alloc, starts)?;
-    let actions = actions(alloc, takes)?;
+    let actions = actions(alloc, takes, commands)?;
     let names = names(alloc, starts.len())?;
     let acts = acts(alloc, commands)?;
     match Chain::new(vars, actions, names, acts, Items::new(alloc)) {

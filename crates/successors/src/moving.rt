@@ -78,7 +78,7 @@ fn choose(
 
 /// Takes the branches of commands, by the draws from where they stand, and makes their assignments.
 #[inline(always)]
-fn take_commands(
+pub fn take_commands(
     commands: &[Command],
     chain: &Chain,
     chosen: &[u32],
@@ -176,7 +176,7 @@ fn take_choice(
 
 /// Takes the commands of the choice of a step, for which nothing is drawn. After a fault the draws may stand further on.
 #[inline(always)]
-pub fn take_only(
+fn take_only(
     plan: &Plan,
     chain: &Chain,
     chosen: &[u32],
@@ -204,6 +204,45 @@ pub fn take_only(
         plan.commands.as_slice(),
         chain,
         chosen,
+        &mut room.branches,
+        &mut room.weights,
+        &mut room.next,
+        state,
+        draws,
+    )
+}
+
+/// Takes the commands of the choice of a step, so many, which stand in the room, and for which nothing is drawn. After a
+/// fault the draws may stand further on.
+#[inline(always)]
+pub fn take_written(
+    plan: &Plan,
+    chain: &Chain,
+    size: usize,
+    room: &mut Room,
+    state: &mut [i64],
+    draws: &mut Draws,
+) -> Result<(), TraceFault>
+    requires plan { IsPlan chain.now plan.now }
+    requires room { IsRoom chain.now plan.now room.old }
+    requires state { IsState chain.now state.old }
+    requires taken { commands_taken chain.now (draw_at draws.old.seed draws.old.trace) state.old draws.old.place
+        ≡ Ok (take size room.old.chosen.items, draws.old.place) }
+    requires size { size ≤ length room.old.chosen.items }
+    requires place { draws.old.place + size ≤ 2 ^ 62 }
+    ensures step { came result state.new draws.new.place
+        ≡ next_of chain.now (draw_at draws.old.seed draws.old.trace)
+        (record { state = state.old; position = draws.old.place }) }
+    ensures stays { OnErr result (state.new ≡ state.old) }
+    ensures keeps { IsState chain.now state.new }
+    ensures forward { draws.old.place ≤ draws.new.place }
+    ensures stream { draws.new ≡ record draws.old { place = draws.new.place } }
+    ensures room { IsRoom chain.now plan.now room.new }
+{
+    take_commands(
+        plan.commands.as_slice(),
+        chain,
+        &room.chosen[..size],
         &mut room.branches,
         &mut room.weights,
         &mut room.next,

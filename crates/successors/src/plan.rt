@@ -5,6 +5,7 @@ ghost use Rattle.successors.specs.Steppers.{IsPlan, IsRoom};
 
 use crate::commands::{Command, commands, guards};
 use crate::partition::{Partition, partition_of, widest};
+use crate::plain::have_truth;
 use chain_model::Chain;
 use chain_model::limits::MOST_BRANCHES;
 use guard_code::Node;
@@ -12,10 +13,11 @@ use smc_num::Frac;
 use sqlite_items::Items;
 use std::alloc::{AllocError, Global};
 
-/// A chain, compiled: the nodes of its guards, its commands, and what they may be part of.
+/// A chain, compiled: the nodes of its guards, whether none of them can fault, its commands, and what they may be part of.
 #[derive(Debug, Drop)]
 pub struct Plan {
     pub guards: Items<Node>,
+    pub plain: bool,
     pub commands: Items<Command>,
     pub partition: Partition,
 }
@@ -34,8 +36,11 @@ pub struct Room {
 pub fn plan_of(alloc: Global, chain: &Chain) -> Result<Plan, AllocError>
     ensures { IfOk result (λ plan. IsPlan chain.now plan) }
 {
+    let guards = guards(alloc, chain.commands.as_slice())?;
+    let plain = have_truth(guards.as_slice());
     Ok(Plan {
-        guards: guards(alloc, chain.commands.as_slice())?,
+        guards,
+        plain,
         commands: commands(alloc, chain)?,
         partition: partition_of(alloc, chain)?,
     })

@@ -1,16 +1,18 @@
 //! Steps of a trace.
 
-ghost use Rattle.std.specs.Prelude.{◌≡◌, ◌+◌, ◌<◌, ◌≤◌, ◌^◌, ◌↔◌, [], IfOk, IfSome, OnErr, Ok, length, take};
+ghost use Rattle.std.specs.Prelude.{◌≡◌, ◌+◌, ◌*◌, ◌<◌, ◌≤◌, ◌^◌, ◌↔◌, [], IfOk, IfSome, OnErr, Ok, length, take};
 ghost use Rattle.trace_streams.specs.Draws.{draw_at};
 ghost use Rattle.chain_model.specs.States.{IsState};
 ghost use Rattle.chain_model.specs.Choices.{choices_of};
 
-use crate::choosing::write_only;
+use crate::choosing::Choices;
 use crate::found::Found;
 use crate::guards::fill;
-use crate::known::take_known;
+use crate::known::{take_known, take_told};
+use crate::listing::{Listed, write_choices};
 use crate::moving::{Moved, make_move};
 use crate::next::Next;
+use crate::plain::{PATIENCE, choices_by_tests, patience_after};
 use crate::plan::{Plan, Room, plan_of, room_for};
 use crate::telling::next_by;
 use chain_model::limits::MOST_MODULES;
@@ -24,13 +26,16 @@ pub struct Stepper {
     plan: Plan,
     bytes: Vec<u8>,
     room: Room,
+    /// How many passes over guards that can't fault may still tell nothing before none is made any more.
+    patience: u32,
 }
 
 impl Stepper {
     ghost use Rattle.successors.specs.Enabled.{AreGuards};
     ghost use Rattle.successors.specs.Steppers.{IsStepperOf};
     ghost use Rattle.successors.specs.Moves.{next_of, came};
-    ghost use Rattle.successors.specs.Choosing.{IsOnlyChoice};
+    ghost use Rattle.successors.specs.Choosing.{AreKnownChoices, AreChoices, IsWithin};
+    ghost use Rattle.successors.specs.Plain.{HasChoice};
     ghost use Rattle.successors.specs.Nexts.{IsNext};
 
     /// The stepper of a job.
@@ -40,7 +45,12 @@ impl Stepper {
         let plan = plan_of(alloc, &job.chain)?;
         let bytes = vec![in alloc; 0; job.chain.commands.len()]?;
         let room = room_for(alloc, &job.chain, &plan)?;
-        Ok(Stepper { plan, bytes, room })
+        Ok(Stepper {
+            plan,
+            bytes,
+            room,
+            patience: PATIENCE,
+        })
     }
 
     /// What a state's next states are, as far as one draw at most tells them apart. They are written into `first` and
@@ -78,13 +88,14 @@ impl Stepper {
         }
     }
 
-    /// How many commands the one choice of a state has, where it has one, and room for them is given. They are written into
-    /// `chosen`.
-    pub fn sole_choice(&mut self, job: &Job, state: &[i64], chosen: &mut [u32]) -> Option<usize>
+    /// How many choices a state has, and how many commands each of them, where all have equally many and room for them is
+    /// given. They are written into `chosen`, one after another.
+    pub fn known_choices(&mut self, job: &Job, state: &[i64], chosen: &mut [u32]) -> Option<Listed>
         requires stepper { IsStepperOf job.now self.old }
         requires state { IsState job.now.chain state.now }
-        ensures choice { IfSome result (λ size. IsOnlyChoice job.now.chain state.now (take size chosen.new)) }
-        ensures within { IfSome result (λ size. size ≤ length chosen.new) }
+        ensures known { IfSome result (λ listed. AreKnownChoices job.now.chain state.now listed.count listed.size
+            (take (listed.count * listed.size) chosen.new)) }
+        ensures within { IfSome result (λ listed. listed.count * listed.size ≤ length chosen.new) }
         ensures stepper { IsStepperOf job.now self.new }
     {
         match fill(
@@ -93,7 +104,7 @@ impl Stepper {
             state,
             &mut self.bytes,
         ) {
-            Ok(_) => write_only(
+            Ok(_) => write_choices(
                 &self.plan,
                 &job.chain,
                 state,
@@ -105,18 +116,19 @@ impl Stepper {
         }
     }
 
-    /// A step from a state whose one choice these commands are: no guard is evaluated. After a fault the state and the
-    /// draws are as they were.
+    /// A step from a state whose choices these are, one after another: no guard is evaluated. After a fault the state and
+    /// the draws are as they were.
     pub fn take_known(
         &mut self,
         job: &Job,
-        chosen: &[u32],
+        listed: Listed,
+        commands: &[u32],
         state: &mut [i64],
         draws: &mut Draws,
     ) -> Result<(), TraceFault>
         requires stepper { IsStepperOf job.now self.old }
         requires state { IsState job.now.chain state.old }
-        requires only { IsOnlyChoice job.now.chain state.old chosen.now }
+        requires known { AreKnownChoices job.now.chain state.old listed.count listed.size commands.now }
         requires place { draws.old.place + 65 ≤ 2 ^ 62 }
         ensures step { came result state.new draws.new.place
             ≡ next_of job.now.chain (draw_at draws.old.seed draws.old.trace)
@@ -126,14 +138,43 @@ impl Stepper {
         ensures stream { draws.new ≡ record draws.old { place = draws.new.place } }
         ensures stays { OnErr result ((state.new ≡ state.old) × (draws.new ≡ draws.old)) }
     {
-        if chosen.len() > self.room.branches.len() || chosen.len() > MOST_MODULES {
+        if listed.size > self.room.branches.len() || listed.size > MOST_MODULES {
             return self.step(job, state, draws);
         }
-        take_known(&self.plan, &job.chain, chosen, &mut self.room, state, draws)
+        take_known(
+            &self.plan,
+            &job.chain,
+            listed,
+            commands,
+            &mut self.room,
+            state,
+            draws,
+        )
     }
 
-    /// A step from a state, and whether a choice was taken. After a fault the state and the draws are as they were.
-    pub fn advance(
+    /// What is told of the choices of a state by a pass over its guards, where these can't fault and such passes have told
+    /// enough. The commands of the one are written into the room.
+    #[inline(always)]
+    fn told_choices(&mut self, job: &Job, state: &[i64]) -> Choices
+        requires stepper { IsStepperOf job.now self.old }
+        requires state { IsState job.now.chain state.now }
+        ensures choices { AreChoices job.now.chain state.now result self.new.room.chosen.items }
+        ensures some { HasChoice job.now.chain state.now result }
+        ensures within { IsWithin result (length self.new.room.chosen.items) }
+        ensures few { IsWithin result 64 }
+        ensures stepper { IsStepperOf job.now self.new }
+    {
+        if !self.plan.plain || self.patience == 0 {
+            return Choices::Several;
+        }
+        let told = choices_by_tests(&self.plan, &job.chain, state, &mut self.room.chosen);
+        self.patience = patience_after(self.patience, told);
+        told
+    }
+
+    /// A step from a state by a byte for each guard, and whether a choice was taken. After a fault the state and the draws
+    /// are as they were.
+    fn advance_by_bytes(
         &mut self,
         job: &Job,
         state: &mut [i64],
@@ -170,6 +211,42 @@ impl Stepper {
             state,
             draws,
         )
+    }
+
+    /// A step from a state, and whether a choice was taken. After a fault the state and the draws are as they were.
+    pub fn advance(
+        &mut self,
+        job: &Job,
+        state: &mut [i64],
+        draws: &mut Draws,
+    ) -> Result<Moved, TraceFault>
+        requires stepper { IsStepperOf job.now self.old }
+        requires state { IsState job.now.chain state.old }
+        requires place { draws.old.place + 65 ≤ 2 ^ 62 }
+        ensures step { came result state.new draws.new.place
+            ≡ next_of job.now.chain (draw_at draws.old.seed draws.old.trace)
+            (record { state = state.old; position = draws.old.place }) }
+        ensures stayed { (result ≡ Ok Moved.Stayed) ↔ (choices_of job.now.chain state.old ≡ Ok []) }
+        ensures keeps { IsState job.now.chain state.new }
+        ensures stepper { IsStepperOf job.now self.new }
+        ensures stream { draws.new ≡ record draws.old { place = draws.new.place } }
+        ensures stays { OnErr result ((state.new ≡ state.old) × (draws.new ≡ draws.old)) }
+    {
+        match self.told_choices(job, state) {
+            Choices::Nothing => Ok(Moved::Stayed),
+            Choices::One(size) => match take_told(
+                &self.plan,
+                &job.chain,
+                size,
+                &mut self.room,
+                state,
+                draws,
+            ) {
+                Ok(()) => Ok(Moved::Taken),
+                Err(fault) => Err(fault),
+            },
+            Choices::Several => self.advance_by_bytes(job, state, draws),
+        }
     }
 
     /// A step from a state. After a fault the state and the draws are as they were.

@@ -345,6 +345,56 @@ static ONE: [Command; 4] = [
 #[test]
 fn one_choice_is_taken_without_a_draw(rt: HostRuntime) -> Result<(), Fail> {
     assert!(rt; is_joint(rt.alloc(), &ONE, &(1, (2, 1), 1))?);
+    assert!(rt; is_joint(rt.alloc(), &TWO, &(1, (2, 1), 1))?);
+    Ok(())
+}
+
+/// Two modules with one command each of two actions, of which the second alone is possible where the variables are 1
+/// and 2.
+static TWO: [Command; 4] = [
+    Command {
+        action: Some(0),
+        guard: Tree::Is(0, 0),
+        first: Branch {
+            weight: Tree::Number(1, 1),
+            set: Some((0, Tree::Number(3, 1))),
+        },
+        ..STAYS
+    },
+    Command {
+        action: Some(1),
+        first: Branch {
+            weight: Tree::Number(1, 1),
+            set: Some((0, Tree::Var(1))),
+        },
+        ..STAYS
+    },
+    Command {
+        module: 1,
+        action: Some(0),
+        first: Branch {
+            weight: Tree::Number(1, 1),
+            set: Some((1, Tree::Number(3, 1))),
+        },
+        ..STAYS
+    },
+    Command {
+        module: 1,
+        action: Some(1),
+        first: Branch {
+            weight: Tree::Number(1, 1),
+            set: Some((1, Tree::Var(0))),
+        },
+        ..STAYS
+    },
+];
+
+#[test]
+fn a_draw_picks_one_of_two_possible_actions(rt: HostRuntime) -> Result<(), Fail> {
+    let mut both = TWO;
+    both[0].guard = Tree::Is(0, 1);
+    assert!(rt; is_joint(rt.alloc(), &both, &(0, (3, 3), 1))?);
+    assert!(rt; is_joint(rt.alloc(), &both, &(2, (2, 1), 3))?);
     Ok(())
 }
 
@@ -583,45 +633,74 @@ fn the_commands_of_one_choice_tell_the_next_states(rt: HostRuntime) -> Result<()
     Ok(())
 }
 
-/// What a step gives by the commands of the one choice of a job's initial state.
-fn known_step_from(alloc: Global, job: &Job, room: &mut [u32]) -> Result<Option<Came>, AllocError> {
+/// The commands of known choices, and what a step by them gives.
+type KnownStep<'a> = (&'a [u32], Came);
+
+/// Whether the known choices of a job's initial state, with this room for them, and a step by them are those that are
+/// given. The step is also that of `advance`.
+fn is_known_from(
+    alloc: Global,
+    job: &Job,
+    room: &mut [u32],
+    place: u64,
+    gives: Option<KnownStep<'_>>,
+) -> Result<bool, AllocError> {
     let mut stepper = Stepper::new(alloc, job)?;
     let mut state = initial(alloc, &job.chain)?;
-    let mut draws = draws_from(2);
-    let Some(size) = stepper.sole_choice(job, &state, room) else {
-        return Ok(None);
+    let mut draws = draws_from(place);
+    let Some(listed) = stepper.known_choices(job, &state, room) else {
+        return Ok(gives.is_none());
     };
-    match stepper.take_known(job, &room[..size], &mut state, &mut draws) {
-        Ok(()) => Ok(Some((Ok(Moved::Taken), first_two(&state), draws.place()))),
-        Err(fault) => Ok(Some((Err(fault), first_two(&state), draws.place()))),
-    }
+    let Some((commands, came)) = gives else {
+        return Ok(false);
+    };
+    let written = &room[..listed.count * listed.size];
+    let result = match stepper.take_known(job, listed, written, &mut state, &mut draws) {
+        Ok(()) => Ok(Moved::Taken),
+        Err(fault) => Err(fault),
+    };
+    Ok(
+        written == commands
+            && (result, first_two(&state), draws.place()) == came
+            && step_from(alloc, job, place)? == came,
+    )
 }
 
-/// What a step of commands gives by those of their one choice, with room for so many, where the draws begin at place 2.
-fn known_step(
+/// The same of commands, with room for so many, where the draws begin at a place.
+fn is_known(
     alloc: Global,
     takes: &[u32],
     commands: &[Command],
     size: usize,
-) -> Result<Option<Came>, AllocError> {
+    place: u64,
+    gives: Option<KnownStep<'_>>,
+) -> Result<bool, AllocError> {
     let mut room = vec![in alloc; 0; size]?;
     match job(alloc, &[1, 2, 0], takes, commands)? {
-        Some(job) => known_step_from(alloc, &job, &mut room),
-        None => Ok(None),
+        Some(job) => is_known_from(alloc, &job, &mut room, place, gives),
+        None => Ok(false),
     }
 }
 
 #[test]
-fn one_choice_that_is_known_is_taken(rt: HostRuntime) -> Result<(), Fail> {
-    let drawn = (Ok(Moved::Taken), (2, 3), 3);
+fn known_choices_are_written_and_taken(rt: HostRuntime) -> Result<(), Fail> {
     let past = Command {
         first: branch((Tree::Number(1, 1), Tree::Plus(0, 3))),
         ..STAYS
     };
-    let fault = (Err(TraceFault::Range { var: 0 }), (1, 2), 2);
-    assert!(rt; known_step(rt.alloc(), &[0, 1], &TOSS, 2)? == Some(drawn));
-    assert!(rt; known_step(rt.alloc(), &[], &[past], 3)? == Some(fault));
-    assert!(rt; known_step(rt.alloc(), &[0, 1], &TOSS, 1)? == None);
-    assert!(rt; known_step(rt.alloc(), &[0, 1], &FIVE, 3)? == None);
+    let alone: &[u32] = &[0];
+    let fault = Some((alone, (Err(TraceFault::Range { var: 0 }), (1, 2), 2)));
+    let joint: &[u32] = &[0, 2, 0, 3, 1, 2, 1, 3];
+    let second = Some((joint, (Ok(Moved::Taken), (0, 1), 1)));
+    let last = Some((joint, (Ok(Moved::Taken), (2, 1), 3)));
+    let pair: &[u32] = &[0, 1];
+    let toss = Some((pair, (Ok(Moved::Taken), (2, 3), 3)));
+    assert!(rt; is_known(rt.alloc(), &[0, 1], &TOSS, 2, 2, toss)?);
+    assert!(rt; is_known(rt.alloc(), &[], &[past], 3, 2, fault)?);
+    assert!(rt; is_known(rt.alloc(), &[0, 1], &TOSS, 1, 2, None)?);
+    assert!(rt; is_known(rt.alloc(), &[0, 1], &FIVE[..4], 8, 0, second)?);
+    assert!(rt; is_known(rt.alloc(), &[0, 1], &FIVE[..4], 9, 2, last)?);
+    assert!(rt; is_known(rt.alloc(), &[0, 1], &FIVE[..4], 7, 0, None)?);
+    assert!(rt; is_known(rt.alloc(), &[0, 1], &FIVE, 9, 0, None)?);
     Ok(())
 }

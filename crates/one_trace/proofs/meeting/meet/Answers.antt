@@ -1,5 +1,5 @@
 -- What is known of a state that is met.
-use Rattle.std.proofs.Common.{◌≡◌, refl, sym, ap, ◌∙◌, subst}
+use Rattle.std.proofs.Common.{refl, sym, ap, ◌∙◌, subst}
 use Rattle.std.specs.Prelude.{Some, List, slice_get}
 use Rattle.std.proofs.lemmas.Option.{slice_get_within}
 use Rattle.state_table.specs.Table.{Table}

@@ -1,5 +1,5 @@
 -- What is told of a state is kept.
-use Rattle.std.proofs.Common.{◌≡◌, ℕ, ◌++◌, length, take, drop, refl, sym, ap, ◌∙◌, subst, arith}
+use Rattle.std.proofs.Common.{◌≡◌, ◌++◌, length, take, drop, refl, sym, ap, ◌∙◌, subst, arith}
 use Rattle.std.specs.Prelude.{Ok}
 use Rattle.chain_model.specs.States.{State, IsState}
 use Rattle.chain_model.specs.Trace.{pair_of}

@@ -3,7 +3,7 @@ use Rattle.std.proofs.Common.{◌≡◌, ℕ, ◌+◌, ◌<◌, length, refl, sy
 use Rattle.trace_streams.specs.Draws.{Place}
 use Rattle.chain_model.specs.Paths.{horizon_of}
 use Rattle.chain_model.specs.Outcome.{IsOutcome}
-use Rattle.chain_model.specs.States.{State, IsState, initial_of}
+use Rattle.chain_model.specs.States.{IsState, initial_of}
 use Rattle.one_trace.specs.Visits.{IsUnderwayAt}
 use Rattle.one_trace.proofs.UnderwayLemmas.{underway_start}
 use Rattle.one_trace.proofs.trace.outcome.Goals as goal

@@ -1,7 +1,5 @@
 -- What is known of a state says where a trace goes on.
-use Rattle.std.proofs.Common.{◌≡◌, ◌++◌, ◌∷◌, [], ℕ, ◌<◌, length, refl, sym, ap, ◌∙◌, subst, arith}
-use Rattle.std.specs.Prelude.{Option, IfSome}
-use Rattle.std.proofs.lemmas.Option.{slice_get_within}
+use Rattle.std.proofs.Common.{◌++◌, ◌∷◌, [], refl, sym, ap, ◌∙◌}
 use Rattle.chain_model.specs.Paths.{horizon_of}
 use Rattle.one_trace.proofs.StayingLemmas.{stays_for_ever}
 use Rattle.one_trace.proofs.NumberLemmas.{is_within}

@@ -1,5 +1,5 @@
 -- What the pair of a state says.
-use Rattle.std.proofs.Common.{◌≡◌, sym, subst}
+use Rattle.std.proofs.Common.{sym, subst}
 use Rattle.chain_model.specs.States.{State}
 use Rattle.one_trace.specs.Underway.{IsUnderway}
 use Rattle.one_trace.proofs.UnderwayLemmas.{faults_here}

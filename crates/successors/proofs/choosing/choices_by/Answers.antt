@@ -1,9 +1,10 @@
 -- The choices are those by the bytes: none, or the one whose commands were written.
-use Rattle.std.proofs.Common.{◌≡◌, take, Some, refl, sym, ◌∙◌, arith}
+use Rattle.std.proofs.Common.{◌≡◌, take, Some, sym, ◌∙◌, arith}
 use Rattle.std.specs.Prelude.{slice_get}
 use Rattle.successors.specs.Enabled.{is_enabled}
 use Rattle.successors.specs.Partition.{choice_lists}
-use Rattle.successors.proofs.MoveLemmas.{known, count_is, none_made, chosen}
+use Rattle.successors.proofs.MoveLemmas.{known, count_is, none_made}
+use Rattle.successors.proofs.ChoiceLemmas.{one_known}
 use Rattle.successors.proofs.choosing.choices_by.Goals as goal
 
 pub returns-in-0-clause-choices : goal.returns-in-0-clause-choices
@@ -22,9 +23,6 @@ returns-in-1-clause-choices c =
     let found : slice_get (choice_lists (is_enabled 0 c.args.enabled.now) c.args.plan.now.partition.singles c.args.plan.now.partition.actions) 0 ≡ Some commands =
     (λ i. slice_get (choice_lists (is_enabled 0 c.args.enabled.now) (sym c.as_slice.ensures i) (sym c.as_slice-2.ensures i)) 0)
     ∙ c.first_choice-count.ensures.first (omega (arith, c.in-1.is)) in
-    record {
-      taken = λ draw position.
-          chosen c.args.chain.now draw c.args.state.now position 1 0 position k.choices
-          (choice_lists (is_enabled 0 c.args.enabled.now) c.args.plan.now.partition.singles c.args.plan.now.partition.actions) commands k.made k.commands
-          (omega (arith, counted, c.in-1.is)) (omega arith) refl found (omega arith);
-    }
+    one_known c.args.chain.now c.args.state.now k.choices
+    (choice_lists (is_enabled 0 c.args.enabled.now) c.args.plan.now.partition.singles c.args.plan.now.partition.actions) commands k.made k.commands
+    (omega (arith, counted, c.in-1.is)) found

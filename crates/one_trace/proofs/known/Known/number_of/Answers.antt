@@ -1,5 +1,5 @@
 -- What is known stays so, and a new state has a row that says nothing.
-use Rattle.std.proofs.Common.{◌≡◌, ℕ, length, refl, sym, ◌∙◌, arith}
+use Rattle.std.proofs.Common.{◌≡◌, length, refl, sym, ◌∙◌, arith}
 use Rattle.one_trace.proofs.KnownLemmas.{known_same, known_longer, adds_none, adds_one}
 use Rattle.one_trace.proofs.known.Known.number_of.Goals as goal
 

@@ -1,6 +1,6 @@
 -- The row of a number is that of its state.
-use Rattle.std.proofs.Common.{◌≡◌, ℕ, ◌<◌, length, subst, sym}
-use Rattle.std.specs.Prelude.{Option, Some, IfSome, slice_get}
+use Rattle.std.proofs.Common.{ℕ, ◌<◌, length, subst, sym}
+use Rattle.std.specs.Prelude.{Option, IfSome}
 use Rattle.std.proofs.lemmas.Option.{slice_get_read}
 use Rattle.one_trace.specs.Numbers.{IsAt}
 use Rattle.one_trace.proofs.known.Known.row_at.Goals as goal

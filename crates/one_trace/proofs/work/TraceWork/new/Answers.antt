@@ -10,7 +10,7 @@ returns c = record {
   stepper = c.in_ok-code.ensures.stepper;
   known = c.in_ok-known.ensures.known c.args.job.now
       (subst (IsState c.args.job.now.chain) (sym c.deref.ensures.value) c.in_ok-initial.ensures.state);
-  soles = c.in_ok-known.ensures.soles c.args.job.now c.in_ok-known.known.table.states;
+  kept = c.in_ok-known.ensures.kept c.args.job.now c.in_ok-known.known.table.states;
   initial = c.in_ok-initial.ensures.first;
   starts = c.in_ok-initial.ensures.state;
   start = subst (λ (s : State). IfSome c.in_ok-known.start (λ number. slice_get c.in_ok-known.known.table.states number ≡ Some s))

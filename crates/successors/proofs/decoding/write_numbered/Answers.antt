@@ -2,7 +2,7 @@
 use Rattle.std.proofs.Common.{◌∙◌, arith}
 use Rattle.successors.specs.Enabled.{is_enabled}
 use Rattle.successors.proofs.PlaceLemmas.{single_here, joint_here}
-use Rattle.successors.proofs.decoding.write_choice.Goals as goal
+use Rattle.successors.proofs.decoding.write_numbered.Goals as goal
 
 pub returns-then-number-alone-clause-value : goal.returns-then-number-alone-clause-value
 returns-then-number-alone-clause-value c =
