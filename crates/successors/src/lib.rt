@@ -31,6 +31,10 @@ pub use next::Next;
 pub use stepper::Stepper;
 
 #[cfg(test)]
+mod choice_tests;
+#[cfg(test)]
 mod fixtures;
+#[cfg(test)]
+mod telling_tests;
 #[cfg(test)]
 mod tests;
